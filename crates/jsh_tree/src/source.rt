@@ -1,10 +1,12 @@
-ghost use Rattle.std.specs.Prelude.{◌≡◌, ℕ, IfOk};
+ghost use Rattle.std.specs.Prelude.{◌≡◌, nat_eq, IfOk};
+ghost use Rattle.std.specs.Cmp.{partial_equiv_from_equiv};
+ghost use Rattle.std.specs.Cmp.Lexicographic.{pointwise, nat_list_eq_equiv};
 
 use std::alloc::{AllocError, Global};
 use std::marker::Model;
 
 /// A source text. Contracts see it as the list of its bytes, which are UTF-8.
-#[derive(Drop)]
+#[derive(Debug, Drop)]
 pub struct SrcText {
     text: String,
 }
@@ -31,4 +33,28 @@ impl SrcText {
     {
         self.text.as_str()
     }
+}
+
+impl Clone for SrcText {
+    ghost is_clone = { λ from copy. copy ≡ from };
+
+    fn clone(&self) -> Result<SrcText, AllocError> {
+        Ok(SrcText {
+            text: self.text.clone()?,
+        })
+    }
+}
+
+impl PartialEq for SrcText {
+    ghost eq = { pointwise nat_eq };
+
+    ghost laws = { partial_equiv_from_equiv nat_list_eq_equiv };
+
+    fn eq(&self, other: &Self) -> bool {
+        self.as_str() == other.as_str()
+    }
+}
+
+impl Eq for SrcText {
+    ghost laws = { nat_list_eq_equiv };
 }
