@@ -5,14 +5,20 @@
 //! a tree of them has no address in its value, and `≡` compares it with what a definition gives.
 #![tactic(auto)]
 
+mod diagnostic;
+mod key;
 mod modifier;
 mod name;
 mod seq;
 mod source;
 mod token;
+mod tree;
 
+pub use diagnostic::{Code, Diagnostic};
+pub use key::{Field, Header, Key, Link, Signature};
 pub use modifier::Modifier;
 pub use name::{Name, TypeWritten};
 pub use seq::Seq;
 pub use source::SrcText;
 pub use token::{Span, Token, TokenKind};
+pub use tree::{AdditiveOperator, Part, Sum, Tree};
