@@ -1,0 +1,12 @@
+//! Texts as UTF-16 units, the values that Java code computes with, and decimal text.
+#![tactic(auto)]
+
+mod decimal;
+mod memory;
+mod utext;
+mod value;
+
+pub use decimal::{print_int, print_long, print_unsigned};
+pub use memory::NoMemory;
+pub use utext::UText;
+pub use value::{KindName, Value};
