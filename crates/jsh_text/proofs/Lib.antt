@@ -1,1 +1,2 @@
+mod Agree
 mod Digits

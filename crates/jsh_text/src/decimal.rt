@@ -9,6 +9,8 @@ use crate::memory::NoMemory;
 use crate::utext::UText;
 use itoa::Buffer;
 use std::alloc::Global;
+use std::error::Error;
+use std::fmt;
 
 const MINUS: u16 = b'-' as u16;
 
@@ -17,6 +19,14 @@ const PLUS: u16 = b'+' as u16;
 /// The text is no number of the type.
 #[derive(Clone, Copy, Debug, PartialEq, Eq)]
 pub struct NotNumber;
+
+impl fmt::Display for NotNumber {
+    fn fmt<W: fmt::Write>(&self, f: &mut fmt::Formatter<W>) -> fmt::Result {
+        f.write_str("not a number of the type")
+    }
+}
+
+impl Error for NotNumber {}
 
 /// Reads an optional sign and decimal digits, as `Integer.parseInt` does.
 pub fn parse_int(text: &UText) -> Result<i32, NotNumber>
@@ -100,7 +110,8 @@ fn digit(unit: u16) -> Option<u64>
 
 /// The decimal text of a number, as `Integer.toString` gives it.
 pub fn print_int(alloc: Global, value: i32) -> Result<UText, NoMemory>
-    ensures { IfOk result (λ text. text ≡ signed_decimal value) }
+    ensures decimal { IfOk result (λ text. text ≡ signed_decimal value) }
+    ensures reads_back { IfOk result (λ text. int_value text ≡ Some value) }
 {
     let mut buffer = Buffer::new();
     UText::from_latin1(alloc, buffer.format(value).as_bytes())
@@ -108,7 +119,8 @@ pub fn print_int(alloc: Global, value: i32) -> Result<UText, NoMemory>
 
 /// The decimal text of a number, as `Long.toString` gives it.
 pub fn print_long(alloc: Global, value: i64) -> Result<UText, NoMemory>
-    ensures { IfOk result (λ text. text ≡ signed_decimal value) }
+    ensures decimal { IfOk result (λ text. text ≡ signed_decimal value) }
+    ensures reads_back { IfOk result (λ text. long_value text ≡ Some value) }
 {
     let mut buffer = Buffer::new();
     UText::from_latin1(alloc, buffer.format(value).as_bytes())

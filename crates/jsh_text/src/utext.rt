@@ -50,7 +50,8 @@ impl UText {
     }
 
     pub fn from_str(alloc: Global, text: &str) -> Result<UText, NoMemory>
-        ensures { IfOk result (λ units. units ≡ utf16 (chars text.now)) }
+        ensures units { IfOk result (λ units. units ≡ utf16 (chars text.now)) }
+        ensures shown { IfOk result (λ units. utf8 units ≡ text.now) }
     {
         let units = encoded(alloc, text)?;
         Ok(UText { units })
