@@ -8,6 +8,10 @@ use Rattle.std.specs.Str.Parse.{digits_value}
 abbrev pub natural_value : List ℕ → Option ℕ
 natural_value units = if nat_lt 0 (length units) && all_ascii_digits units then Some (digits_value 10 units) else None
 
+-- the number, where 64 bits hold it
+abbrev pub within_64_bits : ℕ → Option ℕ
+within_64_bits n = if nat_lt n (2 ^ 64) then Some n else None
+
 -- the number of decimal digits after an optional `+` or `-`
 abbrev pub decimal_value : List ℕ → Option ℤ
 decimal_value [] = None

@@ -1,9 +1,12 @@
 ghost use Rattle.std.specs.Prelude.{◌≡◌, ◌==◌, [], ◌∷◌, ◌++◌, length, ◌↔◌, IsTrue, IfOk, OnOk, OnErr};
+ghost use Rattle.std.specs.Str.{chars};
+ghost use Rattle.jsh_text.specs.Utf.{utf16, utf8};
 ghost use Rattle.std.specs.Cmp.Lexicographic.{pointwise};
 ghost use Rattle.std.specs.Cmp.Rules.{comparing};
 ghost use Rattle.std.proofs.Common.{rules};
 
 use crate::memory::NoMemory;
+use crate::utf8::shown;
 use std::alloc::{AllocError, Global};
 use std::marker::Model;
 
@@ -43,6 +46,14 @@ impl UText {
         ensures { IfOk result (λ text. text ≡ bytes.now) }
     {
         let units = widened(alloc, bytes)?;
+        Ok(UText { units })
+    }
+
+    pub fn from_str(alloc: Global, text: &str) -> Result<UText, NoMemory>
+        ensures units { IfOk result (λ units. units ≡ utf16 (chars text.now)) }
+        ensures shown { IfOk result (λ units. utf8 units ≡ text.now) }
+    {
+        let units = encoded(alloc, text)?;
         Ok(UText { units })
     }
 
@@ -95,6 +106,14 @@ impl UText {
         self.push_units(more.as_slice())
     }
 
+    pub fn push_str(&mut self, text: &str) -> Result<(), NoMemory>
+        ensures ok { OnOk result (self.new ≡ self.old ++ utf16 (chars text.now)) }
+        ensures err { OnErr result (self.new ≡ self.old) }
+    {
+        let more = encoded(*self.units.allocator(), text)?;
+        self.push_units(more.as_slice())
+    }
+
     /// Appends each byte as the unit of the same number, so ASCII text as itself.
     pub fn push_latin1(&mut self, bytes: &[u8]) -> Result<(), NoMemory>
         ensures ok { OnOk result (self.new ≡ self.old ++ bytes.now) }
@@ -103,6 +122,33 @@ impl UText {
         let more = widened(*self.units.allocator(), bytes)?;
         self.push_units(more.as_slice())
     }
+
+    /// `clone`, whose want of memory is `NoMemory`.
+    pub fn copy(&self) -> Result<UText, NoMemory>
+        ensures { IfOk result (λ text. text ≡ self.now) }
+    {
+        Ok(self.clone()?)
+    }
+
+    /// The text in UTF-8, with `?` for each surrogate that has no partner.
+    pub fn to_utf8(&self, alloc: Global) -> Result<Vec<u8>, NoMemory>
+        ensures { IfOk result (λ bytes. bytes.items ≡ utf8 self.now) }
+    {
+        let text = shown(alloc, self.as_slice())?;
+        Ok(text.into_bytes())
+    }
+}
+
+// The characters of a text, each as its one or two units.
+fn encoded(alloc: Global, text: &str) -> Result<Vec<u16>, NoMemory>
+    ensures { IfOk result (λ units. units.items ≡ utf16 (chars text.now)) }
+{
+    let mut units = Vec::with_capacity(alloc, text.len())?;
+    for character in text.chars() {
+        let mut buffer = [0; 2];
+        units.extend_from_slice(character.encode_utf16(&mut buffer))?;
+    }
+    Ok(units)
 }
 
 impl Clone for UText {

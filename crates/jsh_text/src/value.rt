@@ -1,6 +1,8 @@
-ghost use Rattle.std.specs.Prelude.{◌≡◌, Some};
+ghost use Rattle.std.specs.Prelude.{◌≡◌, Some, IfOk, OnErr};
+ghost use Rattle.jsh_text.specs.declared.value.KindName.TheVariants.{Text};
 ghost use Rattle.jsh_text.specs.Value.{kind_of, kind_text};
 
+use crate::memory::NoMemory;
 use crate::utext::UText;
 use std::fmt;
 
@@ -42,6 +44,22 @@ impl Value {
             Value::Text(_) => KindName::Text,
             Value::Ref(_) => KindName::Ref,
             Value::Null => KindName::Null,
+        }
+    }
+
+    /// `clone`, whose want of memory is `NoMemory`. It comes of a text alone.
+    pub fn copy(&self) -> Result<Value, NoMemory>
+        ensures value { IfOk result (λ value. value ≡ self.now) }
+        ensures err { OnErr result (kind_of self.now ≡ Text) }
+    {
+        match self {
+            Value::Int(number) => Ok(Value::Int(*number)),
+            Value::Long(number) => Ok(Value::Long(*number)),
+            Value::Char(unit) => Ok(Value::Char(*unit)),
+            Value::Boolean(truth) => Ok(Value::Boolean(*truth)),
+            Value::Text(text) => Ok(Value::Text(text.copy()?)),
+            Value::Ref(object) => Ok(Value::Ref(*object)),
+            Value::Null => Ok(Value::Null),
         }
     }
 }
