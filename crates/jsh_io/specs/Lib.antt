@@ -1,2 +1,4 @@
 pub mod Count
 pub mod Inputs
+pub mod Memory
+pub mod Script

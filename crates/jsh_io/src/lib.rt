@@ -4,10 +4,15 @@
 
 mod desks;
 mod gates;
+mod memory_sinks;
+mod memory_sources;
+mod scripts;
 mod streams;
 mod writing;
 
 pub use desks::Desk;
 pub use gates::{Gate, GatePoint, OpenGate};
+pub use memory_sinks::{InfallibleSink, MemorySink};
+pub use memory_sources::{InfallibleSource, MemorySource};
 pub use streams::{Failed, Sink, Source};
 pub use writing::write_whole;
