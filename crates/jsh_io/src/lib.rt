@@ -4,14 +4,18 @@
 
 mod desks;
 mod gates;
+mod memory_desks;
 mod memory_sinks;
 mod memory_sources;
+mod named;
+mod openings;
 mod scripts;
 mod streams;
 mod writing;
 
 pub use desks::Desk;
 pub use gates::{Gate, GatePoint, OpenGate};
+pub use memory_desks::MemoryDesk;
 pub use memory_sinks::{InfallibleSink, MemorySink};
 pub use memory_sources::{InfallibleSource, MemorySource};
 pub use streams::{Failed, Sink, Source};
