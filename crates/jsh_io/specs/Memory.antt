@@ -1,6 +1,6 @@
 -- What the streams in memory stand for.
 use Rattle.std.specs.Prelude.{ℕ, ◌+◌, ◌<◌, List, Option, Some, None, if◌then◌else◌, length, drop, min, Contains, vec_capacity, vec_len}
-use Rattle.jsh_io.specs.Script.{one_more}
+use Rattle.jsh_io.specs.Count.{one_more}
 use Rattle.jsh_io.specs.declared.memory_sinks.InfallibleSink.{InfallibleSink}
 use Rattle.jsh_io.specs.declared.memory_sinks.MemorySink.{MemorySink}
 use Rattle.jsh_io.specs.declared.memory_sources.InfallibleSource.{InfallibleSource}

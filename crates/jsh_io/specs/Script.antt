@@ -1,10 +1,7 @@
 -- Which calls of an object in memory fail.
-use Rattle.std.specs.Prelude.{ℕ, ◌+◌, ◌-◌, ◌^◌, min, Contains}
+use Rattle.std.specs.Prelude.{Contains}
+use Rattle.jsh_io.specs.Count.{one_more}
 use Rattle.jsh_io.specs.declared.scripts.Script.{Script}
-
--- one more, up to the end of a u64
-abbrev pub one_more : ℕ → ℕ
-one_more n = min (n + 1) (2 ^ 64 - 1)
 
 -- the next call is to fail
 abbrev pub Fails : Script → Type 0

@@ -1,6 +1,8 @@
 // Real streams and files as sources and sinks. What they read and write is the system's, so they
 // tell none of it.
-ghost use Rattle.std.specs.Prelude.{◌≡◌, ◌<◌, ◌^◌, None};
+ghost use Rattle.std.specs.Prelude.{◌≡◌, ◌<◌, ◌≤◌, ◌^◌, None, length, is_err, if◌then◌else◌, IfOk, OnErr};
+ghost use Rattle.std.specs.Io.KnownBytes.{ReadConsumes, WriteAppends};
+ghost use Rattle.jsh_io.specs.Count.{one_more};
 
 use super::streams::{Failed, Sink, Source};
 use std::fs::File;
@@ -28,7 +30,17 @@ impl<R: Read> Source for ReaderSource<R> {
 
     ghost faults = { λ source. source.faults };
 
-    fn read(&mut self, buf: &mut [u8]) -> Result<usize, Failed> {
+    fn read(&mut self, buf: &mut [u8]) -> Result<usize, Failed>
+        ensures bound { IfOk result (λ n. n ≤ length buf.new) }
+
+        // What the reader gives is handed on.
+        ensures through { ReadConsumes (R.remaining self.old.reader) (R.remaining self.new.reader) result buf.new }
+
+        // Each error is counted.
+        ensures fault { self.new.faults ≡ (if is_err result then one_more self.old.faults else self.old.faults) }
+        ensures never_falls { self.old.faults ≤ self.new.faults }
+        ensures in_range { self.new.faults < 2 ^ 64 }
+    {
         match self.reader.read(buf) {
             Ok(n) => Ok(n),
             Err(_) => {
@@ -60,7 +72,19 @@ impl<W: Write> Sink for WriterSink<W> {
 
     ghost faults = { λ sink. sink.faults };
 
-    fn write(&mut self, piece: &[u8]) -> Result<usize, Failed> {
+    fn write(&mut self, piece: &[u8]) -> Result<usize, Failed>
+        ensures bound { IfOk result (λ n. n ≤ length piece.now) }
+
+        // What the writer takes is handed on.
+        ensures through { WriteAppends (W.contents self.old.writer) (W.contents self.new.writer) result piece.now }
+
+        // Each error is counted, and each write that took nothing of a piece that has bytes.
+        ensures fault { OnErr result (self.new.faults ≡ one_more self.old.faults) }
+        ensures nothing { IfOk result (λ n. n ≡ 0 → 0 < length piece.now → self.new.faults ≡ one_more self.old.faults) }
+        ensures no_fault { IfOk result (λ n. 0 < n → self.new.faults ≡ self.old.faults) }
+        ensures never_falls { self.old.faults ≤ self.new.faults }
+        ensures in_range { self.new.faults < 2 ^ 64 }
+    {
         match self.writer.write(piece) {
             Ok(n) => {
                 if n == 0 && !piece.is_empty() {

@@ -1,5 +1,6 @@
 // A desk in memory.
-ghost use Rattle.std.specs.Prelude.{◌≡◌, ◌<◌, ◌≤◌, ◌^◌, ◌++◌, ◌∷◌, [], Some, None, IsErr, IfOk, OnOk, OnErr, string_bytes, vec_len};
+ghost use Rattle.std.specs.Prelude.{◌≡◌, ◌<◌, ◌≤◌, ◌^◌, ◌++◌, ◌∷◌, ◌↔◌, [], Some, None, IsSome, IsOk, IsErr, is_err, if◌then◌else◌, IfOk, OnOk, OnErr, string_bytes, vec_len};
+ghost use Rattle.jsh_io.specs.Count.{one_more};
 
 use super::desks::Desk;
 use super::memory_sinks::MemorySink;
@@ -111,7 +112,10 @@ impl MemoryDesk {
 }
 
 impl Desk for MemoryDesk {
+    ghost use Rattle.jsh_io.specs.Inputs.{bytes_of, without_file, without_standard};
+    ghost use Rattle.jsh_io.specs.Memory.{source_left};
     ghost use Rattle.jsh_io.specs.MemoryDesk.{inputs_of};
+    ghost use Rattle.jsh_io.specs.Script.{Fails, called};
 
     type In = MemorySource;
 
@@ -123,7 +127,30 @@ impl Desk for MemoryDesk {
 
     ghost output_faults = { λ desk. desk.output_faults };
 
-    fn standard(&mut self) -> Result<(MemorySource, MemorySink), Failed> {
+    fn standard(&mut self) -> Result<(MemorySource, MemorySink), Failed>
+        // When it fails.
+        ensures planned { Fails self.old.script → IsErr result }
+        ensures gone { (inputs_of self.old).standard ≡ None → IsErr result }
+        ensures succeeds { ¬ Fails self.old.script → IsSome (inputs_of self.old).standard → IsOk result }
+
+        // What it hands out, and what stays.
+        ensures opened { IfOk result (λ streams. (inputs_of self.old).standard ≡ Some (source_left streams.0)) }
+        ensures taken { OnOk result (inputs_of self.new ≡ without_standard (inputs_of self.old)) }
+        ensures kept { OnErr result (inputs_of self.new ≡ inputs_of self.old) }
+        ensures fresh_in { IfOk result (λ streams. streams.0.faults ≡ 0) }
+        ensures fresh_out { IfOk result (λ streams. streams.1.faults ≡ 0) }
+        ensures empty { IfOk result (λ streams. streams.1.bytes.items ≡ []) }
+
+        // What is counted.
+        ensures counted { self.new.script ≡ called self.old.script }
+        ensures fault { self.new.input_faults
+            ≡ (if is_err result then one_more self.old.input_faults else self.old.input_faults) }
+        ensures no_fault { self.new.output_faults ≡ self.old.output_faults }
+        ensures never_falls_in { self.old.input_faults ≤ self.new.input_faults }
+        ensures never_falls_out { self.old.output_faults ≤ self.new.output_faults }
+        ensures in_range_in { self.new.input_faults < 2 ^ 64 }
+        ensures in_range_out { self.new.output_faults < 2 ^ 64 }
+    {
         if !self.script.next_fails() {
             if let Some(FreshStreams { source, sink }) = self.standard.take() {
                 return Ok((source.source, sink.sink));
@@ -133,7 +160,30 @@ impl Desk for MemoryDesk {
         Err(Failed)
     }
 
-    fn open_in(&mut self, name: &str) -> Result<MemorySource, Failed> {
+    fn open_in(&mut self, name: &str) -> Result<MemorySource, Failed>
+        // When it fails.
+        ensures planned { Fails self.old.script → IsErr result }
+        ensures missing { bytes_of name.now (inputs_of self.old).files ≡ None → IsErr result }
+        ensures succeeds { ¬ Fails self.old.script → IsSome (bytes_of name.now (inputs_of self.old).files)
+            → IsOk result }
+
+        // What it hands out, and what stays.
+        ensures opened { IfOk result (λ source.
+            bytes_of name.now (inputs_of self.old).files ≡ Some (source_left source)) }
+        ensures taken { OnOk result (inputs_of self.new ≡ without_file name.now (inputs_of self.old)) }
+        ensures kept { OnErr result (inputs_of self.new ≡ inputs_of self.old) }
+        ensures fresh { IfOk result (λ source. source.faults ≡ 0) }
+
+        // What is counted.
+        ensures counted { self.new.script ≡ called self.old.script }
+        ensures fault { self.new.input_faults
+            ≡ (if is_err result then one_more self.old.input_faults else self.old.input_faults) }
+        ensures no_fault { self.new.output_faults ≡ self.old.output_faults }
+        ensures never_falls_in { self.old.input_faults ≤ self.new.input_faults }
+        ensures never_falls_out { self.old.output_faults ≤ self.new.output_faults }
+        ensures in_range_in { self.new.input_faults < 2 ^ 64 }
+        ensures in_range_out { self.new.output_faults < 2 ^ 64 }
+    {
         if !self.script.next_fails() {
             if let Some(fresh) = take_input(&mut self.inputs, name) {
                 return Ok(fresh.source);
@@ -143,7 +193,22 @@ impl Desk for MemoryDesk {
         Err(Failed)
     }
 
-    fn open_out(&mut self, name: &str) -> Result<MemorySink, Failed> {
+    fn open_out(&mut self, name: &str) -> Result<MemorySink, Failed>
+        ensures planned { IsErr result ↔ Fails self.old.script }
+        ensures kept { inputs_of self.new ≡ inputs_of self.old }
+        ensures fresh { IfOk result (λ sink. sink.faults ≡ 0) }
+        ensures empty { IfOk result (λ sink. sink.bytes.items ≡ []) }
+
+        // What is counted.
+        ensures counted { self.new.script ≡ called self.old.script }
+        ensures fault { self.new.output_faults
+            ≡ (if is_err result then one_more self.old.output_faults else self.old.output_faults) }
+        ensures no_fault { self.new.input_faults ≡ self.old.input_faults }
+        ensures never_falls_in { self.old.input_faults ≤ self.new.input_faults }
+        ensures never_falls_out { self.old.output_faults ≤ self.new.output_faults }
+        ensures in_range_in { self.new.input_faults < 2 ^ 64 }
+        ensures in_range_out { self.new.output_faults < 2 ^ 64 }
+    {
         if self.script.next_fails() {
             self.output_faults = self.output_faults.saturating_add(1);
             return Err(Failed);

@@ -2,6 +2,7 @@
 ghost use Rattle.std.specs.Prelude.{◌≡◌, ◌<◌, ◌≤◌, ◌^◌, ◌↔◌, ◌++◌, ◌+◌, min, Some, None, Ok, IsErr, is_err, [], if◌then◌else◌, length, take, vec_len, IfOk, OnErr, IfSome};
 ghost use Rattle.std.specs.Option.{option_copied};
 ghost use Rattle.std.specs.Io.KnownBytes.{append_known};
+ghost use Rattle.jsh_io.specs.Count.{one_more};
 
 use super::scripts::Script;
 use super::streams::{Failed, Sink};
@@ -57,7 +58,7 @@ impl MemorySink {
 }
 
 impl Sink for MemorySink {
-    ghost use Rattle.jsh_io.specs.Script.{Fails, called, one_more};
+    ghost use Rattle.jsh_io.specs.Script.{Fails, called};
     ghost use Rattle.jsh_io.specs.Memory.{IsIdle, HasNoRoom};
 
     ghost held = { λ sink. Some sink.bytes.items };

@@ -1,7 +1,7 @@
 // Sources over bytes in memory.
 ghost use Rattle.std.specs.Prelude.{◌≡◌, ◌<◌, ◌≤◌, ◌^◌, ◌↔◌, ◌++◌, ◌+◌, min, Some, Ok, IsErr, is_err, [], if◌then◌else◌, length, take, drop, vec_len, IfOk, OnErr, IfSome};
 ghost use Rattle.std.specs.Io.KnownBytes.{prepend_known};
-ghost use Rattle.jsh_io.specs.Count.{Rose};
+ghost use Rattle.jsh_io.specs.Count.{one_more};
 
 use super::scripts::Script;
 use super::streams::{Failed, Source};
@@ -122,7 +122,7 @@ impl MemorySource {
 
 impl Source for MemorySource {
     ghost use Rattle.jsh_io.specs.Memory.{source_left, source_piece};
-    ghost use Rattle.jsh_io.specs.Script.{Fails, called, one_more};
+    ghost use Rattle.jsh_io.specs.Script.{Fails, called};
 
     ghost left = { λ source. Some (source_left source) };
 

@@ -32,6 +32,7 @@ impl RealDesk {
 
 impl Desk for RealDesk {
     type In = ReaderSource<InputStream>;
+
     type Out = WriterSink<OutputStream>;
 
     ghost inputs = { λ _. None };
