@@ -6,3 +6,4 @@ pub mod Runs
 pub mod Clients
 pub mod Step
 pub mod History
+pub mod Stands

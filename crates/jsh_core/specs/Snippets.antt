@@ -19,7 +19,7 @@ use Rattle.jsh_snippet.specs.declared.replies.Refusal.TheVariants as refusal
 use Rattle.jsh_snippet.specs.declared.replies.LimitKind.TheVariants as limit
 use Rattle.jsh_sched.specs.declared.ThreadState.TheVariants as thread_state
 use Rattle.jsh_sched.specs.ThreadState.{is_alive}
-use Rattle.jsh_sum.specs.Sum.{sum_of}
+use Rattle.jsh_sum.specs.Reading.{sum_of}
 use Rattle.jsh_core.specs.State.{State, World, Stepped, answer, refuses}
 
 -- the tree of a source that is accepted, and None for one that is rejected: sums alone are in the language so far

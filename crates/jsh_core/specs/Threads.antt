@@ -9,7 +9,7 @@ use Rattle.jsh_snippet.specs.declared.records.Record.{Record}
 use Rattle.jsh_snippet.specs.declared.replies.ReplyBody.TheVariants as body
 use Rattle.jsh_sched.specs.declared.ThreadState.TheVariants as thread_state
 use Rattle.jsh_sched.specs.ThreadState.{is_ready}
-use Rattle.jsh_sum.specs.Sum.{sum_value}
+use Rattle.jsh_sum.specs.Sum.{value_of}
 use Rattle.jsh_core.specs.declared.world.Thread.{Thread}
 use Rattle.jsh_core.specs.declared.world.Frame.{Frame}
 use Rattle.jsh_core.specs.State.{State, World, Stepped, answer, numbered}
@@ -19,9 +19,13 @@ pub data Next : Type 0 where
   Sets : ℤ → Next
   Returns : List ℕ → Next
 
--- The body of a sum, after so many answers: its value goes into the variable, and then the text of it is returned (JLS 15.18).
+-- the value of a snippet's tree
+abbrev pub tree_value : Tree → ℤ
+tree_value (tree.Sum sum) = value_of sum
+
+-- The body of a snippet, after so many answers: its value goes into the variable, and then the text of it is returned (JLS 15.18).
 abbrev pub next : Tree → ℕ → Next
-next (tree.Sum sum) answers = if answers == 0 then Sets (sum_value sum) else Returns (signed_decimal (sum_value sum))
+next body answers = if answers == 0 then Sets (tree_value body) else Returns (signed_decimal (tree_value body))
 
 -- what a thread with this number and this frame does to the world
 abbrev pub performed : World → ℕ → Thread → Frame → Next → World

@@ -1,9 +1,11 @@
 ghost use Rattle.std.specs.Prelude.{◌≡◌, ℕ, ◌+◌, ◌-◌, ◌<◌, ◌≤◌, ◌^◌, length, true, IfErr, IfOk, IfSome, IsSome, OnErr, OnOk, Some};
+ghost use Rattle.std.specs.List.{count_by};
 ghost use Rattle.std.specs.Option.{option_copied};
+ghost use Rattle.jsh_sched.specs.ThreadState.{is_alive};
 ghost use Rattle.jsh_core.specs.declared.world.Frame.{Frame};
 ghost use Rattle.jsh_core.specs.declared.world.Thread.{Thread};
 ghost use Rattle.jsh_core.specs.State.{numbered};
-ghost use Rattle.jsh_core.specs.Threads.{can_go_on, performed, stepped, tree_of, turned};
+ghost use Rattle.jsh_core.specs.Threads.{can_go_on, performed, stepped, tree_of, tree_value, turned};
 ghost use Rattle.jsh_core.specs.Threads.Next.{Returns, Sets};
 ghost use Rattle.jsh_core.specs.Parts.{world_of, IsWorld, StepsAtMost};
 
@@ -12,7 +14,7 @@ use crate::parts::WorldParts;
 use crate::world::Frame;
 use jsh_sched::ThreadState;
 use jsh_snippet::Record;
-use jsh_sum::evaluate;
+use jsh_sum::value_of;
 use jsh_text::{NoMemory, UText, Value, print_int};
 use jsh_tree::Tree;
 use std::alloc::Global;
@@ -43,6 +45,15 @@ pub fn tree_at(book: &[Record], id: u32) -> Option<&Tree>
     }
 }
 
+/// The value of a snippet's tree.
+fn value_of_tree(body: &Tree) -> i32
+    ensures { result ≡ tree_value body.now }
+{
+    match body {
+        Tree::Sum(sum) => value_of(sum),
+    }
+}
+
 /// The thread sets its variable.
 fn set_variable(world: &mut WorldParts, number: u32, frame: Frame, value: i32)
     requires thread { IsSome (numbered world.old.threads.items number) }
@@ -51,7 +62,8 @@ fn set_variable(world: &mut WorldParts, number: u32, frame: Frame, value: i32)
     requires cells { frame.snippet ≤ length world.old.cells.items }
     requires first { frame.answers ≡ 0 }
     ensures after { IfSome (numbered world.old.threads.items number) (λ (t : Thread). world_of world.new ≡ performed (world_of world.old) number t frame (Sets value)) }
-    ensures alive { world.new.alive ≡ world.old.alive }
+    ensures world { (records : ℕ) → IsWorld world.old records → IsWorld world.new records }
+    ensures steps { (bound : ℕ) → StepsAtMost bound world.old.threads.items → StepsAtMost (bound + 1) world.new.threads.items }
 {
     world.cells[frame.snippet as usize - 1] = Some(Value::Int(value));
     let thread = &mut world.threads[number as usize - 1];
@@ -67,9 +79,11 @@ fn end_thread(world: &mut WorldParts, number: u32, text: UText)
     requires thread { IsSome (numbered world.old.threads.items number) }
     requires few { IfSome (numbered world.old.threads.items number) (λ (t : Thread). t.steps + 1 < 2 ^ 64) }
     requires states { length world.old.states.items ≡ length world.old.threads.items }
-    requires alive { 0 < world.old.alive }
+    requires ready { can_go_on (world_of world.old) number ≡ true }
+    requires counted { world.old.alive ≡ count_by is_alive world.old.states.items }
     ensures after { (frame : Frame) → IfSome (numbered world.old.threads.items number) (λ (t : Thread). world_of world.new ≡ performed (world_of world.old) number t frame (Returns text)) }
-    ensures alive { world.new.alive + 1 ≡ world.old.alive }
+    ensures world { (records : ℕ) → IsWorld world.old records → IsWorld world.new records }
+    ensures steps { (bound : ℕ) → StepsAtMost bound world.old.threads.items → StepsAtMost (bound + 1) world.new.threads.items }
 {
     world.states[number as usize - 1] = ThreadState::Ended;
     let thread = &mut world.threads[number as usize - 1];
@@ -95,10 +109,10 @@ fn step(world: &mut WorldParts, book: &[Record], alloc: Global, number: u32) -> 
     let Some(frame) = thread.frame else {
         return Ok(());
     };
-    let Some(Tree::Sum(sum)) = tree_at(book, frame.snippet) else {
+    let Some(body) = tree_at(book, frame.snippet) else {
         return Ok(());
     };
-    let value = evaluate(sum);
+    let value = value_of_tree(body);
     if frame.answers == 0 {
         set_variable(world, number, frame, value);
     } else {
@@ -122,8 +136,9 @@ pub fn turn(world: &mut WorldParts, book: &[Record], alloc: Global, number: u32,
 {
     let mut done = 0;
     while done < most && is_ready_at(world, number) {
-        if step(world, book, alloc, number).is_err() {
-            return Err(CutShort { done });
+        match step(world, book, alloc, number) {
+            Ok(()) => (),
+            Err(_) => return Err(CutShort { done }),
         }
         done += 1;
     }
