@@ -30,7 +30,7 @@ impl fmt::Display for NotNumber {
 
 impl Error for NotNumber {}
 
-/// Reads an optional sign and decimal digits, as `Integer.parseInt` does.
+/// Reads an optional sign and ASCII decimal digits, as `Integer.parseInt` does, which takes Unicode's other digits too.
 pub fn parse_int(text: &UText) -> Result<i32, NotNumber>
     ensures { result_ok result ≡ int_value text.now }
 {
@@ -41,7 +41,7 @@ pub fn parse_int(text: &UText) -> Result<i32, NotNumber>
     }
 }
 
-/// Reads an optional sign and decimal digits, as `Long.parseLong` does.
+/// The same for a `long`, as `Long.parseLong`.
 pub fn parse_long(text: &UText) -> Result<i64, NotNumber>
     ensures { result_ok result ≡ long_value text.now }
 {
@@ -118,7 +118,7 @@ pub fn print_int(alloc: Global, value: i32) -> Result<UText, NoMemory>
     print_long(alloc, value as i64)
 }
 
-/// The decimal text of a number, as `Long.toString` gives it.
+/// The same for a `long`, as `Long.toString`.
 pub fn print_long(alloc: Global, value: i64) -> Result<UText, NoMemory>
     ensures decimal { IfOk result (λ text. text ≡ signed_decimal value) }
     ensures reads_back { IfOk result (λ text. long_value text ≡ Some value) }
