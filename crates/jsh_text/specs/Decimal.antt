@@ -1,10 +1,10 @@
--- The number that a decimal text writes, as `Integer.parseInt` and `Long.parseLong` read it.
+-- The number that a decimal text writes, as `Integer.parseInt` and `Long.parseLong` read ASCII text.
 use Rattle.std.specs.Prelude.{ℕ, ◌^◌, Bool, ◌&&◌, List, [], ◌∷◌, length, nat_lt, ◌==◌, ℤ, pos, negsuc, neg_ℤ, if◌then◌else◌, Option, None, Some}
 use Rattle.std.specs.Option.{option_map, option_and_then}
 use Rattle.std.specs.Str.{all_ascii_digits}
 use Rattle.std.specs.Str.Parse.{digits_value}
 
--- the number of one or more decimal digits, and None for any other text
+-- the number of one or more ASCII digits, and None for any other text
 abbrev pub natural_value : List ℕ → Option ℕ
 natural_value units = if nat_lt 0 (length units) && all_ascii_digits units then Some (digits_value 10 units) else None
 
@@ -12,7 +12,7 @@ natural_value units = if nat_lt 0 (length units) && all_ascii_digits units then 
 abbrev pub within_64_bits : ℕ → Option ℕ
 within_64_bits n = if nat_lt n (2 ^ 64) then Some n else None
 
--- the number of decimal digits after an optional `+` or `-`
+-- the number of digits after an optional `+` or `-`
 abbrev pub decimal_value : List ℕ → Option ℤ
 decimal_value [] = None
 decimal_value (unit ∷ units) = if unit == 45 then option_map (λ n. neg_ℤ (pos n)) (natural_value units)

@@ -1,4 +1,4 @@
-ghost use Rattle.std.specs.Prelude.{◌≡◌, decimal, pos, neg_ℤ, if◌then◌else◌, Some, None, ◌++◌, IfOk, OnOk, OnErr};
+ghost use Rattle.std.specs.Prelude.{◌≡◌, codes, decimal, pos, neg_ℤ, if◌then◌else◌, Some, None, ◌++◌, IfOk, OnOk, OnErr};
 ghost use Rattle.std.specs.Char.{is_ascii_digit, digit_value};
 ghost use Rattle.std.specs.Fmt.{signed_decimal};
 ghost use Rattle.std.specs.Option.{option_and_then};
@@ -21,6 +21,8 @@ const PLUS: u16 = b'+' as u16;
 pub struct NotNumber;
 
 impl fmt::Display for NotNumber {
+    ghost output = { λ _. Some (codes "not a number of the type") };
+
     fn fmt<W: fmt::Write>(&self, f: &mut fmt::Formatter<W>) -> fmt::Result {
         f.write_str("not a number of the type")
     }
@@ -28,7 +30,7 @@ impl fmt::Display for NotNumber {
 
 impl Error for NotNumber {}
 
-/// Reads an optional sign and decimal digits, as `Integer.parseInt` does.
+/// Reads an optional sign and ASCII decimal digits, as `Integer.parseInt` does, which takes Unicode's other digits too.
 pub fn parse_int(text: &UText) -> Result<i32, NotNumber>
     ensures { result_ok result ≡ int_value text.now }
 {
@@ -39,7 +41,7 @@ pub fn parse_int(text: &UText) -> Result<i32, NotNumber>
     }
 }
 
-/// Reads an optional sign and decimal digits, as `Long.parseLong` does.
+/// The same for a `long`, as `Long.parseLong`.
 pub fn parse_long(text: &UText) -> Result<i64, NotNumber>
     ensures { result_ok result ≡ long_value text.now }
 {
@@ -113,11 +115,10 @@ pub fn print_int(alloc: Global, value: i32) -> Result<UText, NoMemory>
     ensures decimal { IfOk result (λ text. text ≡ signed_decimal value) }
     ensures reads_back { IfOk result (λ text. int_value text ≡ Some value) }
 {
-    let mut buffer = Buffer::new();
-    UText::from_latin1(alloc, buffer.format(value).as_bytes())
+    print_long(alloc, value as i64)
 }
 
-/// The decimal text of a number, as `Long.toString` gives it.
+/// The same for a `long`, as `Long.toString`.
 pub fn print_long(alloc: Global, value: i64) -> Result<UText, NoMemory>
     ensures decimal { IfOk result (λ text. text ≡ signed_decimal value) }
     ensures reads_back { IfOk result (λ text. long_value text ≡ Some value) }
@@ -130,8 +131,9 @@ pub fn print_long(alloc: Global, value: i64) -> Result<UText, NoMemory>
 pub fn print_unsigned(alloc: Global, value: u64) -> Result<UText, NoMemory>
     ensures { IfOk result (λ text. text ≡ decimal value) }
 {
-    let mut buffer = Buffer::new();
-    UText::from_latin1(alloc, buffer.format(value).as_bytes())
+    let mut text = UText::new(alloc);
+    push_unsigned(&mut text, value)?;
+    Ok(text)
 }
 
 /// Appends the decimal digits of a count.

@@ -1,4 +1,4 @@
-// Expected values are from the JLS, from Java's documentation of `parseInt` and `parseLong`, and from RFC 2781 and RFC 3629.
+// Expected values are from the ranges of the JLS, from Java's documentation of `parseInt`, and from RFC 2781 and RFC 3629.
 use crate::{
     KindName, NotNumber, UText, Value, parse_int, parse_long, print_int, print_long,
     print_unsigned, push_unsigned,
