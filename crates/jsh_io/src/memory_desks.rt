@@ -51,7 +51,6 @@ pub struct MemoryDesk {
 impl MemoryDesk {
     ghost use Rattle.jsh_io.specs.Memory.{source_left};
     ghost use Rattle.jsh_io.specs.MemoryDesk.{inputs_of};
-    ghost use Rattle.jsh_io.specs.Inputs.{Inputs};
 
     /// The openings with the numbers of `failing` fail, the first opening being number 1.
     pub fn new(
