@@ -1,5 +1,5 @@
 // What hands out streams.
-ghost use Rattle.std.specs.Prelude.{◌≡◌, ℕ, ◌<◌, ◌≤◌, ◌^◌, List, [], Option, Some, option_map, length, IfOk, OnOk, OnErr, IfSome, IsSomeAnd};
+ghost use Rattle.std.specs.Prelude.{◌≡◌, ℕ, ◌<◌, ◌≤◌, ◌^◌, Option, Some, option_map, IfOk, OnOk, OnErr, IfSome, IsSomeAnd};
 ghost use Rattle.jsh_io.specs.Count.{Rose};
 ghost use Rattle.jsh_io.specs.Inputs.{Inputs, without_standard, bytes_of, without_file, IsEmptyWhereTold};
 

@@ -24,3 +24,6 @@ pub use memory_sources::{InfallibleSource, MemorySource};
 pub use real_desks::RealDesk;
 pub use streams::{Failed, Sink, Source};
 pub use writing::write_whole;
+
+#[cfg(test)]
+mod tests;

@@ -1,5 +1,5 @@
 // A desk in memory.
-ghost use Rattle.std.specs.Prelude.{◌≡◌, ◌<◌, ◌≤◌, ◌^◌, ◌++◌, ◌∷◌, ◌↔◌, [], Some, None, IsSome, IsOk, IsErr, is_err, if◌then◌else◌, IfOk, OnOk, OnErr, string_bytes, vec_len};
+ghost use Rattle.std.specs.Prelude.{◌≡◌, ◌<◌, ◌≤◌, ◌^◌, ◌++◌, ◌∷◌, ◌↔◌, [], Some, None, IsSome, IsOk, IsErr, is_err, if◌then◌else◌, IfOk, IfSome, OnOk, OnErr, string_bytes, vec_len};
 ghost use Rattle.jsh_io.specs.Count.{one_more};
 
 use super::desks::Desk;
@@ -51,7 +51,6 @@ pub struct MemoryDesk {
 impl MemoryDesk {
     ghost use Rattle.jsh_io.specs.Memory.{source_left};
     ghost use Rattle.jsh_io.specs.MemoryDesk.{inputs_of};
-    ghost use Rattle.jsh_io.specs.Inputs.{Inputs};
 
     /// The openings with the numbers of `failing` fail, the first opening being number 1.
     pub fn new(
@@ -115,6 +114,7 @@ impl Desk for MemoryDesk {
     ghost use Rattle.jsh_io.specs.Inputs.{bytes_of, without_file, without_standard};
     ghost use Rattle.jsh_io.specs.Memory.{source_left};
     ghost use Rattle.jsh_io.specs.MemoryDesk.{inputs_of};
+    ghost use Rattle.jsh_io.specs.Named.{first_named};
     ghost use Rattle.jsh_io.specs.Script.{Fails, called};
 
     type In = MemorySource;
@@ -195,6 +195,8 @@ impl Desk for MemoryDesk {
 
     fn open_out(&mut self, name: &str) -> Result<MemorySink, Failed>
         ensures planned { IsErr result ↔ Fails self.old.script }
+        ensures prepared { IfOk result (λ sink.
+            IfSome (first_named name.now self.old.outputs.items) (λ fresh. sink ≡ fresh.sink)) }
         ensures kept { inputs_of self.new ≡ inputs_of self.old }
         ensures fresh { IfOk result (λ sink. sink.faults ≡ 0) }
         ensures empty { IfOk result (λ sink. sink.bytes.items ≡ []) }

@@ -1,12 +1,11 @@
 // Sinks in memory.
-ghost use Rattle.std.specs.Prelude.{◌≡◌, ◌<◌, ◌≤◌, ◌^◌, ◌↔◌, ◌++◌, ◌+◌, min, Some, None, Ok, IsErr, is_err, [], if◌then◌else◌, length, take, vec_len, IfOk, OnErr, IfSome};
+ghost use Rattle.std.specs.Prelude.{◌≡◌, ◌<◌, ◌≤◌, ◌^◌, ◌++◌, min, Some, None, Ok, IsErr, is_err, length, take, IfOk, OnErr, IfSome};
 ghost use Rattle.std.specs.Option.{option_copied};
 ghost use Rattle.std.specs.Io.KnownBytes.{append_known};
 ghost use Rattle.jsh_io.specs.Count.{one_more};
 
 use super::scripts::Script;
 use super::streams::{Failed, Sink};
-use std::alloc::Global;
 
 /// A sink in memory, some of whose writes fail or take nothing. A write takes at most `piece`
 /// bytes. A write also fails where there is no memory for its bytes.

@@ -1,6 +1,5 @@
 // Sources over bytes in memory.
-ghost use Rattle.std.specs.Prelude.{◌≡◌, ◌<◌, ◌≤◌, ◌^◌, ◌↔◌, ◌++◌, ◌+◌, min, Some, Ok, IsErr, is_err, [], if◌then◌else◌, length, take, drop, vec_len, IfOk, OnErr, IfSome};
-ghost use Rattle.std.specs.Io.KnownBytes.{prepend_known};
+ghost use Rattle.std.specs.Prelude.{◌≡◌, ◌<◌, ◌≤◌, ◌^◌, ◌↔◌, ◌++◌, min, Some, Ok, IsErr, is_err, if◌then◌else◌, length, take, drop, vec_len, IfOk, OnErr};
 ghost use Rattle.jsh_io.specs.Count.{one_more};
 
 use super::scripts::Script;
