@@ -101,3 +101,6 @@ fn is_main(main: Option<u32>, thread: u32) -> bool
         None => false,
     }
 }
+
+#[cfg(test)]
+mod tests;

@@ -22,3 +22,6 @@ pub fn value_of(sum: &Sum) -> i32
     }
     value
 }
+
+#[cfg(test)]
+mod tests;

@@ -1,7 +1,8 @@
-ghost use Rattle.std.specs.Prelude.{◌≡◌, ◌+◌, ◌-◌, ◌*◌, ◌<◌, ◌≤◌, pos, fold, IfOk, OnOk, IsTrue, if◌then◌else◌};
+ghost use Rattle.std.specs.Prelude.{◌≡◌, ◌↔◌, ◌+◌, ◌-◌, ◌*◌, ◌<◌, ◌≤◌, pos, fold, IfOk, OnOk, IsTrue, if◌then◌else◌};
 ghost use Rattle.std.specs.Char.{is_ascii_digit};
 ghost use Rattle.std.specs.Option.{option_map};
-ghost use Rattle.jsh_sum.specs.Sum.{is_white};
+ghost use Rattle.jsh_tree.specs.declared.tree.Sum.{Sum};
+ghost use Rattle.jsh_sum.specs.Sum.{is_white, Spells};
 ghost use Rattle.jsh_sum.specs.Reading.{more_digits, operator_of, sum_from, sum_of};
 
 use jsh_tree::{AdditiveOperator, Part, Seq, Sum};
@@ -9,7 +10,8 @@ use std::alloc::{AllocError, Global};
 
 /// The sum that a text spells, or `None` where it spells none.
 pub fn parse_sum(alloc: Global, text: &str) -> Result<Option<Sum>, AllocError>
-    ensures value { IfOk result (λ sum. sum ≡ sum_of text.now) }
+    ensures value { IfOk result (λ found. found ≡ sum_of text.now) }
+    ensures spelled { IfOk result (λ found. (sum : Sum) → (found ≡ Some sum) ↔ Spells sum text.now) }
 {
     let mut reader = Reader::new(alloc);
     for byte in text.as_bytes() {
