@@ -1,9 +1,10 @@
 -- How a visible step changes the lists of a world.
-use Rattle.std.proofs.Common.{◌≡◌, ℕ, zero, suc, ◌+◌, ◌-◌, ◌<◌, ◌≤◌, Bool, true, false, List, [], ◌∷◌, Option, None, Some, length, set, get_or, refl, ap, sym, subst, ◌∙◌, arith, cond, ◌==◌}
+use Rattle.std.proofs.Common.{◌≡◌, ℕ, zero, suc, ◌+◌, ◌-◌, ◌<◌, ◌≤◌, Bool, true, false, List, [], ◌∷◌, ◌++◌, Option, None, Some, length, set, get_or, refl, ap, sym, subst, ◌∙◌, arith, cond, ◌==◌}
 use Rattle.std.specs.List.{count_by, slice_get, sum_by}
 use Rattle.std.specs.Option.{option_map_or}
 use Rattle.std.proofs.lemmas.Option.{get_or_from_slice_get, slice_get_within}
 use Rattle.std.proofs.lemmas.List.Sums.{sum_by-set}
+use Rattle.std.proofs.lemmas.Bool.{eqb-true}
 use Rattle.jsh_sched.specs.declared.ThreadState.{ThreadState}
 use Rattle.jsh_sched.specs.declared.ThreadState.TheVariants as thread_state
 use Rattle.jsh_sched.specs.ThreadState.{is_ready, is_alive}
@@ -64,3 +65,22 @@ Ends-ready states number ready = from (numbered states number) refl ready
     from (Some s) e r =
         let less : count_by is_alive (set states (number - 1) thread_state.Ended) + 1 ≡ count_by is_alive states = ends_at states (number - 1) s (numbered-place states number s e) r in
         record { alive = omega (arith, less); fewer = less }
+
+-- numbers begin with 1
+pub numbered-positive : {A : Type 0} (items : List A) (number : ℕ) (item : A) → numbered items number ≡ Some item → 0 < number
+numbered-positive items zero item e = cc
+numbered-positive items (suc k) item e = omega arith
+
+slice_get-last : {A : Type 0} (items : List A) (item : A) → slice_get (items ++ item ∷ []) (length items) ≡ Some item
+slice_get-last [] item = refl
+slice_get-last (x ∷ xs) item = slice_get-last xs item
+
+-- the item that is added has the next number
+pub numbered-push : {A : Type 0} (items : List A) (number : ℕ) (item : A) → number ≡ length items + 1 → numbered (items ++ item ∷ []) number ≡ Some item
+numbered-push items number item e = from (number == 0) refl
+  where
+    from : (first : Bool) → (number == 0) ≡ first → cond first None (slice_get (items ++ item ∷ []) (number - 1)) ≡ Some item
+    from true z = absurd (omega (arith, e, eqb-true number 0 z))
+    from false z =
+        let m : number - 1 ≡ length items = omega (arith, e) in
+        ap (slice_get (items ++ item ∷ [])) m ∙ slice_get-last items item

@@ -14,6 +14,7 @@ use Rattle.jsh_snippet.specs.declared.kinds.Fate.TheVariants as fate
 use Rattle.jsh_snippet.specs.declared.records.Record.{Record}
 use Rattle.jsh_snippet.specs.declared.events.Event.{Event}
 use Rattle.jsh_snippet.specs.declared.replies.Submitted.{Submitted}
+use Rattle.jsh_snippet.specs.declared.replies.ReplyBody.{ReplyBody}
 use Rattle.jsh_snippet.specs.declared.replies.ReplyBody.TheVariants as body
 use Rattle.jsh_snippet.specs.declared.replies.Refusal.TheVariants as refusal
 use Rattle.jsh_snippet.specs.declared.replies.LimitKind.TheVariants as limit
@@ -143,3 +144,8 @@ abbrev pub submitted : State → ℕ → List ℕ → Stepped
 submitted s client source =
     if nat_le 16384 (length s.book) then refuses s (refusal.Limit limit.Records 16384)
     else judged s client source (verdict source)
+
+-- the run that a submitted snippet has
+abbrev pub run_of : ReplyBody → Option ℕ
+run_of (body.Submitted what) = what.run
+run_of _ = None
