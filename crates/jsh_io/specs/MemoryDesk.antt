@@ -2,6 +2,7 @@
 use Rattle.std.specs.Prelude.{ℕ, List, map, option_map, string_bytes}
 use Rattle.jsh_io.specs.Inputs.{Inputs}
 use Rattle.jsh_io.specs.Memory.{source_left}
+use Rattle.jsh_io.specs.declared.memory_sinks.MemorySink.{MemorySink}
 use Rattle.jsh_io.specs.declared.named.Named.{Named}
 use Rattle.jsh_io.specs.declared.memory_desks.FreshSource.{FreshSource}
 use Rattle.jsh_io.specs.declared.memory_desks.MemoryDesk.{MemoryDesk}
@@ -16,3 +17,7 @@ inputs_of desk = record {
   standard = option_map (λ streams. source_left streams.source.source) desk.standard;
   files = map file_of desk.inputs.items;
 }
+
+-- the sinks that are ready, each with its name
+abbrev pub outputs_of : MemoryDesk → List (List ℕ × MemorySink)
+outputs_of desk = map (λ output. (string_bytes output.name, output.value.sink)) desk.outputs.items

@@ -50,7 +50,7 @@ pub struct MemoryDesk {
 
 impl MemoryDesk {
     ghost use Rattle.jsh_io.specs.Memory.{source_left};
-    ghost use Rattle.jsh_io.specs.MemoryDesk.{inputs_of};
+    ghost use Rattle.jsh_io.specs.MemoryDesk.{inputs_of, outputs_of};
 
     /// The openings with the numbers of `failing` fail, the first opening being number 1.
     pub fn new(
@@ -100,6 +100,8 @@ impl MemoryDesk {
     pub fn add_output(&mut self, name: String, sink: MemorySink) -> Result<(), AllocError>
         requires unwritten { sink.faults ≡ 0 }
         requires empty { sink.bytes.items ≡ [] }
+        ensures ok { OnOk result (outputs_of self.new ≡ outputs_of self.old ++ (string_bytes name, sink) ∷ []) }
+        ensures err { OnErr result (outputs_of self.new ≡ outputs_of self.old) }
         ensures inputs { inputs_of self.new ≡ inputs_of self.old }
     {
         self.outputs.push(Named {
