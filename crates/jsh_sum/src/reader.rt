@@ -11,6 +11,8 @@ use std::alloc::{AllocError, Global};
 /// The sum that a text spells, or `None` where it spells none.
 pub fn parse_sum(alloc: Global, text: &str) -> Result<Option<Sum>, AllocError>
     ensures value { IfOk result (λ found. found ≡ sum_of text.now) }
+
+    // So a text spells one sum at most.
     ensures spelled { IfOk result (λ found. (sum : Sum) → (found ≡ Some sum) ↔ Spells sum text.now) }
 {
     let mut reader = Reader::new(alloc);
