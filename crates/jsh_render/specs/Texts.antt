@@ -1,5 +1,5 @@
 -- What feedback writes for a reply, in UTF-8, after the feedback of the `jshell` tool (JEP 222).
-use Rattle.std.specs.Prelude.{ℕ, List, [], ◌∷◌, ◌++◌, codes, decimal}
+use Rattle.std.specs.Prelude.{ℕ, List, [], ◌++◌, codes, decimal}
 use Rattle.std.specs.List.{flat_map}
 use Rattle.jsh_tree.specs.declared.diagnostic.Code.{Code}
 use Rattle.jsh_tree.specs.declared.diagnostic.Code.TheVariants as code

@@ -8,15 +8,19 @@ use jsh_tree::{Code, Diagnostic, Seq, SrcText};
 use std::alloc::Global;
 use std::test::Fail;
 
-fn entry(act: Act) -> Entry {
-    Entry { client: 1, act }
+fn rendered(alloc: Global, act: Act, body: ReplyBody) -> Result<Vec<u8>, NoMemory> {
+    let output = UText::new(alloc);
+    render(alloc, &Entry { client: 1, act }, &Reply { output, body })
 }
 
-fn reply(alloc: Global, body: ReplyBody) -> Reply {
-    Reply {
-        output: UText::new(alloc),
-        body,
-    }
+fn rejected(alloc: Global, source: &str, place: u32) -> Result<Vec<u8>, NoMemory> {
+    let source = SrcText::from_text(alloc, source)?;
+    let diagnostics = Seq::from_vec(vec![in alloc; not_yet(place)]?);
+    rendered(alloc, Act::Submit { source }, submitted(alloc, diagnostics))
+}
+
+fn refused(alloc: Global, act: Act, refusal: Refusal) -> Result<Vec<u8>, NoMemory> {
+    rendered(alloc, act, ReplyBody::Refused(refusal))
 }
 
 fn not_yet(place: u32) -> Diagnostic {
@@ -27,7 +31,7 @@ fn not_yet(place: u32) -> Diagnostic {
     }
 }
 
-fn rejected(alloc: Global, diagnostics: Seq<Diagnostic>) -> ReplyBody {
+fn submitted(alloc: Global, diagnostics: Seq<Diagnostic>) -> ReplyBody {
     ReplyBody::Submitted(Submitted {
         id: 1,
         kind: Kind::Erroneous,
@@ -72,13 +76,8 @@ fn locates_errors(rt: HostRuntime) -> Result<(), Fail> {
         ),
     ];
     for (source, place, want) in rows {
-        let entry = entry(Act::Submit {
-            source: SrcText::from_text(alloc, source)?,
-        });
-        let diagnostics = Seq::from_vec(vec![in alloc; not_yet(place)]?);
-        let reply = reply(alloc, rejected(alloc, diagnostics));
         assert_eq!(rt;
-            render(alloc, &entry, &reply)?.as_slice(),
+            rejected(alloc, source, place)?.as_slice(),
             want.as_bytes(),
             "{want}"
         );
@@ -87,69 +86,58 @@ fn locates_errors(rt: HostRuntime) -> Result<(), Fail> {
 }
 
 #[test]
-fn names_refusals(rt: HostRuntime) -> Result<(), Fail> {
+fn names_limits(rt: HostRuntime) -> Result<(), Fail> {
     let alloc = rt.alloc();
-    let limit = |which, count| Refusal::Limit { which, count };
     let rows = [
+        (LimitKind::Source, 65536, "|  limit reached: Source 65536\n"),
         (
-            Act::Enter,
-            limit(LimitKind::Clients, 64),
-            "|  limit reached: Clients 64\n",
-        ),
-        (
-            Act::Leave,
-            limit(LimitKind::Records, 16384),
+            LimitKind::Records,
+            16384,
             "|  limit reached: Records 16384\n",
         ),
         (
-            Act::Leave,
-            limit(LimitKind::Source, 65536),
-            "|  limit reached: Source 65536\n",
-        ),
-        (
-            Act::Leave,
-            limit(LimitKind::History, 4194304),
+            LimitKind::History,
+            4194304,
             "|  limit reached: History 4194304\n",
         ),
         (
-            Act::Leave,
-            limit(LimitKind::HistoryBytes, 67108864),
+            LimitKind::HistoryBytes,
+            67108864,
             "|  limit reached: HistoryBytes 67108864\n",
         ),
-        (
-            Act::Leave,
-            limit(LimitKind::Threads, 256),
-            "|  limit reached: Threads 256\n",
-        ),
-        (
-            Act::Collect { run: 9 },
-            Refusal::NoSuchRun { run: 9 },
-            "|  no run 9\n",
-        ),
-        (
-            Act::Collect { run: 1 },
-            Refusal::NotOwner { owner: 2 },
-            "|  run 1 belongs to client 2\n",
-        ),
-        (
-            Act::Expire { run: 3, steps: 7 },
-            Refusal::NotOwner { owner: 0 },
-            "|  run 3 belongs to client 0\n",
-        ),
+        (LimitKind::Clients, 64, "|  limit reached: Clients 64\n"),
+        (LimitKind::Threads, 256, "|  limit reached: Threads 256\n"),
     ];
-    for (act, refusal, want) in rows {
-        let reply = reply(alloc, ReplyBody::Refused(refusal));
-        assert_eq!(rt;
-            render(alloc, &entry(act), &reply)?.as_slice(),
-            want.as_bytes(),
-            "{want}"
-        );
+    for (which, count, want) in rows {
+        let bytes = refused(alloc, Act::Enter, Refusal::Limit { which, count })?;
+        assert_eq!(rt; bytes.as_slice(), want.as_bytes(), "{want}");
     }
     Ok(())
 }
 
 #[test]
-fn shows_values(rt: HostRuntime) -> Result<(), Fail> {
+fn names_runs(rt: HostRuntime) -> Result<(), Fail> {
+    let alloc = rt.alloc();
+    let unknown = refused(
+        alloc,
+        Act::Collect { run: 9 },
+        Refusal::NoSuchRun { run: 9 },
+    )?;
+    assert_eq!(rt; unknown.as_slice(), b"|  no run 9\n".as_slice());
+    let foreign = refused(
+        alloc,
+        Act::Expire { run: 1, steps: 7 },
+        Refusal::NotOwner { owner: 2 },
+    )?;
+    assert_eq!(rt;
+        foreign.as_slice(),
+        b"|  run 1 belongs to client 2\n".as_slice()
+    );
+    Ok(())
+}
+
+#[test]
+fn writes_values(rt: HostRuntime) -> Result<(), Fail> {
     let alloc = rt.alloc();
     let rows = [
         ("$1", "3", "$1 ==> 3\n"),
@@ -157,21 +145,8 @@ fn shows_values(rt: HostRuntime) -> Result<(), Fail> {
         ("\u{E9}", "\"\u{20AC}\"", "\u{E9} ==> \"\u{20AC}\"\n"),
     ];
     for (name, value, want) in rows {
-        let mut reply = reply(alloc, over(alloc, name, value)?);
-        let entry = entry(Act::Collect { run: 1 });
-        assert_eq!(rt;
-            render(alloc, &entry, &reply)?.as_slice(),
-            want.as_bytes(),
-            "{want}"
-        );
-
-        reply.output = UText::from_str(alloc, "out\n")?;
-        let shown = format!(in alloc; "out\n{want}")?;
-        assert_eq!(rt;
-            show(alloc, &entry, &reply)?.as_slice(),
-            shown.as_bytes(),
-            "{want}"
-        );
+        let bytes = rendered(alloc, Act::Collect { run: 1 }, over(alloc, name, value)?)?;
+        assert_eq!(rt; bytes.as_slice(), want.as_bytes(), "{want}");
     }
     Ok(())
 }
@@ -179,18 +154,21 @@ fn shows_values(rt: HostRuntime) -> Result<(), Fail> {
 #[test]
 fn writes_nothing(rt: HostRuntime) -> Result<(), Fail> {
     let alloc = rt.alloc();
-    let bodies = [
-        rejected(alloc, Seq::new(alloc)),
-        ReplyBody::Entered { number: 1 },
-        ReplyBody::Turned { steps: 256 },
-        ReplyBody::Collected(Collected::Running { steps: 3 }),
-        ReplyBody::Left,
-        ReplyBody::Closed,
-    ];
-    for body in bodies {
-        let reply = reply(alloc, body);
-        assert!(rt; render(alloc, &entry(Act::Leave), &reply)?.is_empty());
-        assert!(rt; show(alloc, &entry(Act::Leave), &reply)?.is_empty());
-    }
+    let accepted = submitted(alloc, Seq::new(alloc));
+    assert!(rt; rendered(alloc, Act::Leave, accepted)?.is_empty());
+    assert!(rt; rendered(alloc, Act::Leave, ReplyBody::Left)?.is_empty());
+    Ok(())
+}
+
+#[test]
+fn shows_output_first(rt: HostRuntime) -> Result<(), Fail> {
+    let alloc = rt.alloc();
+    let act = Act::Collect { run: 1 };
+    let reply = Reply {
+        output: UText::from_str(alloc, "out\n")?,
+        body: over(alloc, "$1", "3")?,
+    };
+    let bytes = show(alloc, &Entry { client: 1, act }, &reply)?;
+    assert_eq!(rt; bytes.as_slice(), b"out\n$1 ==> 3\n".as_slice());
     Ok(())
 }
