@@ -1,0 +1,90 @@
+-- What feedback writes for a reply, in UTF-8, after the feedback of the `jshell` tool (JEP 222).
+use Rattle.std.specs.Prelude.{ℕ, List, [], ◌++◌, codes, decimal}
+use Rattle.std.specs.List.{flat_map}
+use Rattle.jsh_tree.specs.declared.diagnostic.Code.{Code}
+use Rattle.jsh_tree.specs.declared.diagnostic.Code.TheVariants as code
+use Rattle.jsh_tree.specs.declared.diagnostic.Diagnostic.{Diagnostic}
+use Rattle.jsh_text.specs.Utf.{utf8}
+use Rattle.jsh_snippet.specs.declared.acts.Act.{Act}
+use Rattle.jsh_snippet.specs.declared.acts.Act.TheVariants as act
+use Rattle.jsh_snippet.specs.declared.acts.Entry.{Entry}
+use Rattle.jsh_snippet.specs.declared.replies.Collected.{Collected}
+use Rattle.jsh_snippet.specs.declared.replies.Collected.TheVariants as «collected»
+use Rattle.jsh_snippet.specs.declared.replies.LimitKind.{LimitKind}
+use Rattle.jsh_snippet.specs.declared.replies.LimitKind.TheVariants as limit
+use Rattle.jsh_snippet.specs.declared.replies.Outcome.{Outcome}
+use Rattle.jsh_snippet.specs.declared.replies.Outcome.TheVariants as outcome
+use Rattle.jsh_snippet.specs.declared.replies.Refusal.{Refusal}
+use Rattle.jsh_snippet.specs.declared.replies.Refusal.TheVariants as refusal
+use Rattle.jsh_snippet.specs.declared.replies.Reply.{Reply}
+use Rattle.jsh_snippet.specs.declared.replies.ReplyBody.{ReplyBody}
+use Rattle.jsh_snippet.specs.declared.replies.ReplyBody.TheVariants as body
+use Rattle.jsh_render.specs.declared.place.Position.{Position}
+use Rattle.jsh_render.specs.Place.{position_of}
+
+-- the source that an act hands in
+abbrev pub source_of : Act → List ℕ
+source_of (act.Submit source) = source
+source_of _ = []
+
+-- the run that an act asks for, and 0 where it asks for none
+abbrev pub run_of : Act → ℕ
+run_of (act.Collect run) = run
+run_of (act.Expire run steps) = run
+run_of _ = 0
+
+-- what is wrong, in words
+abbrev pub code_text : Code → List ℕ
+code_text code.NotYet = codes "not built yet"
+
+abbrev pub limit_name : LimitKind → List ℕ
+limit_name limit.Source = codes "Source"
+limit_name limit.Records = codes "Records"
+limit_name limit.History = codes "History"
+limit_name limit.HistoryBytes = codes "HistoryBytes"
+limit_name limit.Clients = codes "Clients"
+limit_name limit.Threads = codes "Threads"
+
+-- `|  Error at 1:1: not built yet`
+abbrev pub error_text : Position → List ℕ → List ℕ
+error_text at text = codes "|  Error at " ++ decimal at.line ++ codes ":" ++ decimal at.column ++ codes ": " ++ text ++ codes "\n"
+
+-- the line of a diagnostic in a source
+abbrev pub error_line : List ℕ → Diagnostic → List ℕ
+error_line source diagnostic = error_text (position_of source diagnostic.place) (code_text diagnostic.code)
+
+-- `$1 ==> 3`, and `3` alone where there is no name
+abbrev pub value_line : List ℕ → List ℕ → List ℕ
+value_line [] text = utf8 text ++ codes "\n"
+value_line name text = utf8 name ++ codes " ==> " ++ utf8 text ++ codes "\n"
+
+-- `|  no run 9`, `|  run 1 belongs to client 2`, `|  limit reached: Records 16384`. What is refused to acts on snippets has no text yet.
+abbrev pub refusal_line : ℕ → Refusal → List ℕ
+refusal_line asked (refusal.NoSuchRun run) = codes "|  no run " ++ decimal run ++ codes "\n"
+refusal_line asked (refusal.NotOwner owner) = codes "|  run " ++ decimal asked ++ codes " belongs to client " ++ decimal owner ++ codes "\n"
+refusal_line asked (refusal.Limit which count) = codes "|  limit reached: " ++ limit_name which ++ codes " " ++ decimal count ++ codes "\n"
+refusal_line asked _ = []
+
+-- the value of a run that is over. The other outcomes have no text yet, and a run that goes on has none at all.
+abbrev pub outcome_line : List ℕ → Outcome → List ℕ
+outcome_line name (outcome.Value text) = value_line name text
+outcome_line name _ = []
+
+abbrev pub collected_line : Collected → List ℕ
+collected_line («collected».Over id name outcome) = outcome_line name outcome
+collected_line («collected».Running steps) = []
+
+-- what is written for an act that got this answer. The acts that the engine doesn't do yet have no text yet.
+abbrev pub feedback : Act → ReplyBody → List ℕ
+feedback act (body.Submitted submitted) = flat_map (error_line (source_of act)) submitted.diagnostics
+feedback act (body.Collected collected) = collected_line collected
+feedback act (body.Refused refusal) = refusal_line (run_of act) refusal
+feedback act _ = []
+
+-- the feedback of a reply to an entry
+abbrev pub rendered : Entry → Reply → List ℕ
+rendered entry reply = feedback entry.act reply.body
+
+-- all that a client is written for an entry: first what its threads have printed, and then the feedback
+abbrev pub shown : Entry → Reply → List ℕ
+shown entry reply = utf8 reply.output ++ rendered entry reply

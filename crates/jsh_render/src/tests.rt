@@ -1,0 +1,174 @@
+// Expected texts are in the form of the `jshell` tool's feedback.
+use crate::{render, show};
+use jsh_snippet::{
+    Act, Collected, Entry, Kind, LimitKind, Outcome, Refusal, Reply, ReplyBody, Subkind, Submitted,
+};
+use jsh_text::{NoMemory, UText};
+use jsh_tree::{Code, Diagnostic, Seq, SrcText};
+use std::alloc::Global;
+use std::test::Fail;
+
+fn rendered(alloc: Global, act: Act, body: ReplyBody) -> Result<Vec<u8>, NoMemory> {
+    let output = UText::new(alloc);
+    render(alloc, &Entry { client: 1, act }, &Reply { output, body })
+}
+
+fn rejected(alloc: Global, source: &str, place: u32) -> Result<Vec<u8>, NoMemory> {
+    let source = SrcText::from_text(alloc, source)?;
+    let diagnostics = Seq::from_vec(vec![in alloc; not_yet(place)]?);
+    rendered(alloc, Act::Submit { source }, submitted(alloc, diagnostics))
+}
+
+fn refused(alloc: Global, act: Act, refusal: Refusal) -> Result<Vec<u8>, NoMemory> {
+    rendered(alloc, act, ReplyBody::Refused(refusal))
+}
+
+fn not_yet(place: u32) -> Diagnostic {
+    Diagnostic {
+        code: Code::NotYet,
+        place,
+        name: None,
+    }
+}
+
+fn submitted(alloc: Global, diagnostics: Seq<Diagnostic>) -> ReplyBody {
+    ReplyBody::Submitted(Submitted {
+        id: 1,
+        kind: Kind::Erroneous,
+        subkind: Subkind::Unknown,
+        name: UText::new(alloc),
+        events: Seq::new(alloc),
+        ignored: Seq::new(alloc),
+        diagnostics,
+        unresolved: Seq::new(alloc),
+        run: None,
+        value: None,
+    })
+}
+
+fn over(alloc: Global, name: &str, value: &str) -> Result<ReplyBody, NoMemory> {
+    let name = UText::from_str(alloc, name)?;
+    let outcome = Outcome::Value(UText::from_str(alloc, value)?);
+    Ok(ReplyBody::Collected(Collected::Over {
+        id: 1,
+        name,
+        outcome,
+    }))
+}
+
+#[test]
+fn locates_errors(rt: HostRuntime) -> Result<(), Fail> {
+    let alloc = rt.alloc();
+    let rows = [
+        ("class A {}", 0, "|  Error at 1:1: not built yet\n"),
+        ("1 + x", 4, "|  Error at 1:5: not built yet\n"),
+        ("1 +\n\u{E9} x", 4, "|  Error at 2:1: not built yet\n"),
+        ("1 +\n\u{E9} x", 7, "|  Error at 2:3: not built yet\n"),
+        (
+            "\n\u{20AC}\u{12345}\n",
+            8,
+            "|  Error at 2:3: not built yet\n",
+        ),
+        (
+            "\n\u{20AC}\u{12345}\n",
+            9,
+            "|  Error at 3:1: not built yet\n",
+        ),
+    ];
+    for (source, place, want) in rows {
+        assert_eq!(rt;
+            rejected(alloc, source, place)?.as_slice(),
+            want.as_bytes(),
+            "{want}"
+        );
+    }
+    Ok(())
+}
+
+#[test]
+fn names_limits(rt: HostRuntime) -> Result<(), Fail> {
+    let alloc = rt.alloc();
+    let rows = [
+        (LimitKind::Source, 65536, "|  limit reached: Source 65536\n"),
+        (
+            LimitKind::Records,
+            16384,
+            "|  limit reached: Records 16384\n",
+        ),
+        (
+            LimitKind::History,
+            4194304,
+            "|  limit reached: History 4194304\n",
+        ),
+        (
+            LimitKind::HistoryBytes,
+            67108864,
+            "|  limit reached: HistoryBytes 67108864\n",
+        ),
+        (LimitKind::Clients, 64, "|  limit reached: Clients 64\n"),
+        (LimitKind::Threads, 256, "|  limit reached: Threads 256\n"),
+    ];
+    for (which, count, want) in rows {
+        let bytes = refused(alloc, Act::Enter, Refusal::Limit { which, count })?;
+        assert_eq!(rt; bytes.as_slice(), want.as_bytes(), "{want}");
+    }
+    Ok(())
+}
+
+#[test]
+fn names_runs(rt: HostRuntime) -> Result<(), Fail> {
+    let alloc = rt.alloc();
+    let unknown = refused(
+        alloc,
+        Act::Collect { run: 9 },
+        Refusal::NoSuchRun { run: 9 },
+    )?;
+    assert_eq!(rt; unknown.as_slice(), b"|  no run 9\n".as_slice());
+    let foreign = refused(
+        alloc,
+        Act::Expire { run: 1, steps: 7 },
+        Refusal::NotOwner { owner: 2 },
+    )?;
+    assert_eq!(rt;
+        foreign.as_slice(),
+        b"|  run 1 belongs to client 2\n".as_slice()
+    );
+    Ok(())
+}
+
+#[test]
+fn writes_values(rt: HostRuntime) -> Result<(), Fail> {
+    let alloc = rt.alloc();
+    let rows = [
+        ("$1", "3", "$1 ==> 3\n"),
+        ("", "3", "3\n"),
+        ("\u{E9}", "\"\u{20AC}\"", "\u{E9} ==> \"\u{20AC}\"\n"),
+    ];
+    for (name, value, want) in rows {
+        let bytes = rendered(alloc, Act::Collect { run: 1 }, over(alloc, name, value)?)?;
+        assert_eq!(rt; bytes.as_slice(), want.as_bytes(), "{want}");
+    }
+    Ok(())
+}
+
+#[test]
+fn writes_nothing(rt: HostRuntime) -> Result<(), Fail> {
+    let alloc = rt.alloc();
+    let accepted = submitted(alloc, Seq::new(alloc));
+    assert!(rt; rendered(alloc, Act::Leave, accepted)?.is_empty());
+    assert!(rt; rendered(alloc, Act::Leave, ReplyBody::Left)?.is_empty());
+    Ok(())
+}
+
+#[test]
+fn shows_output_first(rt: HostRuntime) -> Result<(), Fail> {
+    let alloc = rt.alloc();
+    let act = Act::Collect { run: 1 };
+    let reply = Reply {
+        output: UText::from_str(alloc, "out\n")?,
+        body: over(alloc, "$1", "3")?,
+    };
+    let bytes = show(alloc, &Entry { client: 1, act }, &reply)?;
+    assert_eq!(rt; bytes.as_slice(), b"out\n$1 ==> 3\n".as_slice());
+    Ok(())
+}
