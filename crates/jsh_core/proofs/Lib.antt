@@ -1,3 +1,5 @@
 pub mod Bounds
+pub mod ClientLemmas
+pub mod StandsLemmas
 pub mod TurnLemmas
 pub mod WorldLemmas
