@@ -1,6 +1,6 @@
 -- What stands for a history, when an entry more comes.
 use Rattle.std.proofs.Common.{◌≡◌, ℕ, suc, zero, ◌+◌, ◌*◌, ◌<◌, ◌≤◌, Bool, true, false, cond, List, [], ◌∷◌, ◌++◌, Option, None, Some, length, min, set, get_or, refl, ap, sym, subst, ◌∙◌, arith, append_assoc, append-nil, length-append, length-set, add-zero}
-use Rattle.std.specs.Prelude.{◌||◌, not, eqb}
+use Rattle.std.specs.Prelude.{◌||◌, ◌==◌, if◌then◌else◌, not, eqb}
 use Rattle.std.proofs.Math.Nat.{le_refl}
 use Rattle.std.proofs.lemmas.Bool.{le-ltb, lt-ltb}
 use Rattle.std.proofs.lemmas.Bool.Decides.{nat_tests}
@@ -12,9 +12,12 @@ use Rattle.jsh_snippet.specs.declared.acts.Act.{Act}
 use Rattle.jsh_snippet.specs.declared.acts.Act.TheVariants as act
 use Rattle.jsh_snippet.specs.declared.acts.Entry.{Entry}
 use Rattle.jsh_core.specs.declared.world.Thread.{Thread}
+use Rattle.jsh_snippet.specs.declared.records.Record.{Record}
 use Rattle.jsh_core.specs.declared.parts.Parts.{Parts}
-use Rattle.jsh_core.specs.State.{State, opening}
-use Rattle.jsh_core.specs.Parts.{state_from, IsSound, StepsAtMost}
+use Rattle.jsh_core.specs.declared.parts.WorldParts.{WorldParts}
+use Rattle.jsh_core.specs.State.{State, World, opening}
+use Rattle.jsh_core.specs.Parts.{state_from, world_of, IsSound, IsWorld, StepsAtMost}
+use Rattle.jsh_core.specs.Threads.{turned}
 use Rattle.jsh_core.specs.Step.{step}
 use Rattle.jsh_core.specs.History.{state_after, state_of, source_bytes, act_bytes, is_close, closed_at, Allows, IsLegalAfter, IsLegal}
 use Rattle.jsh_core.specs.Stands.{StandsFor, present_count}
@@ -35,7 +38,7 @@ IsLegal-more history e h a = legal_more [] history e h a
 
 pub source_bytes-more : (history : List Entry) (e : Entry) → source_bytes (history ++ e ∷ []) ≡ source_bytes history + act_bytes e.act
 source_bytes-more history e =
-    let both : source_bytes (history ++ e ∷ []) ≡ source_bytes history + (act_bytes e.act + 0) = sum_by-append (λ (entry : Entry). act_bytes entry.act) history (e ∷ []) in
+    let both : source_bytes (history ++ e ∷ []) ≡ source_bytes history + (0 + act_bytes e.act) = sum_by-append (λ (entry : Entry). act_bytes entry.act) history (e ∷ []) in
     omega (arith, both)
 
 -- whether an entry is a close
@@ -73,15 +76,15 @@ open_length_more h e o =
 
 -- an entry that is no close leaves it open
 closed_at-more : (h : List Entry) (e : Entry) → list_any closes h ≡ false → closes e ≡ false → closed_at (h ++ e ∷ []) ≡ None
-closed_at-more h e o no =
-    let at : position_or_len closes (h ++ e ∷ []) ≡ length h + 1 = open_length_more h e o ∙ ap (λ b. length h + cond b 0 1) no in
+closed_at-more h e o stays =
+    let at : position_or_len closes (h ++ e ∷ []) ≡ length h + 1 = open_length_more h e o ∙ ap (λ b. length h + cond b 0 1) stays in
     let past : length (h ++ e ∷ []) ≤ length h + 1 = simp length-append (omega arith) in
     rw (at, le-ltb (length h + 1) (length (h ++ e ∷ [])) past) refl
 
 -- a close stands behind all that was there
 closed_at-close : (h : List Entry) (e : Entry) → list_any closes h ≡ false → closes e ≡ true → closed_at (h ++ e ∷ []) ≡ Some (length h)
-closed_at-close h e o yes =
-    let at : position_or_len closes (h ++ e ∷ []) ≡ length h = open_length_more h e o ∙ ap (λ b. length h + cond b 0 1) yes ∙ add-zero (length h) in
+closed_at-close h e o ends =
+    let at : position_or_len closes (h ++ e ∷ []) ≡ length h = open_length_more h e o ∙ ap (λ b. length h + cond b 0 1) ends ∙ add-zero (length h) in
     let within : length h < length (h ++ e ∷ []) = simp length-append (omega arith) in
     rw (at, lt-ltb (length h) (length (h ++ e ∷ [])) within) refl
 
@@ -91,6 +94,7 @@ pub StandsFor-same : (history same : List Entry) (capacity wider count : ℕ) (c
     StepsAtMost (256 * min (length history) 4194304) after.world.threads.items → StandsFor same wider after count close
 StandsFor-same history same capacity wider count close parts after old is wide alike sound few =
     let clients : after.clients.items ≡ parts.clients.items = ap (λ (s : State). s.clients) alike in
+    let room : (close ≡ None → length history + present_count after.clients.items + 1 ≤ wider) = λ none. rw clients (more (old.room none)) in
     let done : StandsFor history wider after count close = record {
         legal = old.legal;
         state = alike ∙ old.state;
@@ -98,11 +102,11 @@ StandsFor-same history same capacity wider count close parts after old is wide a
         steps = few;
         bytes = old.bytes;
         closed = old.closed;
-        room = λ none. rw clients (room none) } in
+        room = room } in
     subst (λ (h : List Entry). StandsFor h wider after count close) (sym is) done
   where
-    room : close ≡ None → length history + present_count parts.clients.items + 1 ≤ wider
-    room none = let old_room : length history + present_count parts.clients.items + 1 ≤ capacity = old.room none in omega arith
+    more : length history + present_count parts.clients.items + 1 ≤ capacity → length history + present_count parts.clients.items + 1 ≤ wider
+    more h = omega arith
 
 -- what stands for a history that is an entry longer
 next : (history : List Entry) (entry : Entry) (capacity wider count : ℕ) (close later : Option ℕ) (parts after : Parts) →
@@ -134,9 +138,9 @@ pub StandsFor-next : (history longer : List Entry) (entry : Entry) (capacity wid
     longer ≡ history ++ entry ∷ [] → state_from after ≡ (step (state_from parts) entry).state → IsSound after →
     StepsAtMost (256 * min (length history) 4194304 + 256) after.world.threads.items →
     more ≡ count + act_bytes entry.act → length history + 67 ≤ wider → StandsFor longer wider after more close
-StandsFor-next history longer entry capacity wider count more close parts after old allowed no short is same sound few bytes wide =
+StandsFor-next history longer entry capacity wider count more close parts after old allowed stays short is same sound few bytes wide =
     let later : close ≡ closed_at (history ++ entry ∷ []) =
-        old.closed ∙ closed_at-open history allowed.open ∙ sym (closed_at-more history entry allowed.open no) in
+        old.closed ∙ closed_at-open history allowed.open ∙ sym (closed_at-more history entry allowed.open stays) in
     let there : present_count after.clients.items ≤ length after.clients.items = count_by-le-length (λ (there : Bool). there) after.clients.items in
     let long : length (history ++ entry ∷ []) ≡ length history + 1 = simp length-append (omega arith) in
     let enough : length (history ++ entry ∷ []) + present_count after.clients.items + 1 ≤ wider = omega (arith, sound.clients) in
@@ -148,7 +152,7 @@ pub StandsFor-leave : (history longer : List Entry) (client capacity wider count
     StandsFor history capacity parts count close → Allows history (record { client = client; act = act.Leave }) →
     longer ≡ history ++ record { client = client; act = act.Leave } ∷ [] →
     state_from after ≡ (step (state_from parts) (record { client = client; act = act.Leave })).state → IsSound after →
-    after.world.threads.items ≡ parts.world.threads.items → capacity ≤ wider → StandsFor longer wider after count close
+    after.world.threads ≡ parts.world.threads → capacity ≤ wider → StandsFor longer wider after count close
 StandsFor-leave history longer client capacity wider count close parts after old allowed is same sound threads wide =
     let entry : Entry = record { client = client; act = act.Leave } in
     let later : close ≡ closed_at (history ++ entry ∷ []) =
@@ -180,3 +184,52 @@ StandsFor-close history longer client capacity wider count close parts old allow
     let done = next history entry capacity wider count close (Some (length history)) parts parts old allowed refl old.sound few later (λ none. cc) in
     let bytes : count ≡ count + 0 = omega arith in
     rw is (subst (λ (n : ℕ). StandsFor (history ++ entry ∷ []) wider parts n (Some (length history))) (sym bytes) done)
+
+-- where the threads stay, none has done a step more
+pub steps-quiet : (history : List Entry) (capacity count : ℕ) (close : Option ℕ) (parts after : Parts) → StandsFor history capacity parts count close →
+    after.world.threads ≡ parts.world.threads → StepsAtMost (256 * min (length history) 4194304 + 256) after.world.threads.items
+steps-quiet history capacity count close parts after old same =
+    let wide : 256 * min (length history) 4194304 ≤ 256 * min (length history) 4194304 + 256 = omega arith in
+    rw same (StepsAtMost-weaker _ _ _ wide old.steps)
+
+-- while no close stands there is room for an entry more
+pub room-open : (history : List Entry) (entry : Entry) (capacity count : ℕ) (close : Option ℕ) (parts : Parts) → StandsFor history capacity parts count close →
+    Allows history entry → length history + 1 ≤ capacity
+room-open history entry capacity count close parts old allowed =
+    let none : close ≡ None = old.closed ∙ closed_at-open history allowed.open in
+    let room : length history + present_count parts.clients.items + 1 ≤ capacity = old.room none in
+    omega arith
+
+-- a turn of fewer steps is allowed too
+pub Allows-fewer : (history : List Entry) (client thread steps fewer : ℕ) → Allows history (record { client = client; act = act.Turn thread steps }) →
+    1 ≤ fewer → fewer ≤ steps → Allows history (record { client = client; act = act.Turn thread fewer })
+Allows-fewer history client thread steps fewer allowed some few =
+    let most : steps ≤ 256 = allowed.may.2 in
+    record { present = allowed.present; «open» = allowed.open; may = (allowed.may.0, some, omega arith) }
+
+-- what a turn leaves fits together
+pub IsSound-turned : (parts : Parts) (after : WorldParts) (book : List Record) → IsSound parts → book ≡ parts.book.items → IsWorld after (length book) →
+    IsSound (record parts { world = after })
+IsSound-turned parts after book sound is world = record {
+    world = subst (λ (xs : List Record). IsWorld after (length xs)) is world;
+    generation = sound.generation;
+    book = sound.book;
+    clients = sound.clients }
+
+-- what a turn leaves stands for the step of its entry
+pub state-turned : (parts : Parts) (after : WorldParts) (book : List Record) (client thread steps : ℕ) → book ≡ parts.book.items →
+    world_of after ≡ (turned book thread steps (world_of parts.world)).world →
+    state_from (record parts { world = after }) ≡ (step (state_from parts) (record { client = client; act = act.Turn thread steps })).state
+state-turned parts after book client thread steps is world =
+    ap (λ (w : World). record (state_from parts) { world = w }) (world ∙ ap (λ (xs : List Record). (turned xs thread steps (world_of parts.world)).world) is)
+
+-- a turn is kept with at least a step, and no more than were asked for
+pub kept_within : (asked done kept : ℕ) → kept ≡ (if done == 0 then asked else done) → 1 ≤ asked → done ≤ asked → (1 ≤ kept) × (kept ≤ asked)
+kept_within asked done kept is some few = from (done == 0) refl is
+  where
+    nonzero : (n : ℕ) → (n == 0) ≡ false → 1 ≤ n
+    nonzero zero e = cc
+    nonzero (suc n) e = omega arith
+    from : (none : Bool) → (done == 0) ≡ none → kept ≡ (if none then asked else done) → (1 ≤ kept) × (kept ≤ asked)
+    from true e same = let all : kept ≡ asked = same in (omega arith, omega arith)
+    from false e same = let all : kept ≡ done = same in let more : 1 ≤ done = nonzero done e in (omega arith, omega arith)
