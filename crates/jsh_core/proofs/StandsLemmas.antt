@@ -54,7 +54,7 @@ fewer_present clients client there =
     let within : client < length clients = slice_get_within clients client true there in
     let same : get_or clients client false ≡ true = get_or_from_slice_get clients client true false there in
     let moved : sum_by (λ (x : Bool). cond x 1 0) (set clients client false) + cond (get_or clients client false) 1 0 ≡ sum_by (λ (x : Bool). cond x 1 0) clients + 0
-        = sum_by-set (λ (x : Bool). cond x 1 0) clients client false false within in
+    = sum_by-set (λ (x : Bool). cond x 1 0) clients client false false within in
     let one : ◌≡◌ {A = ℕ} (cond (get_or clients client false) 1 0) 1 = rw same refl in
     omega (arith, moved, one)
 
@@ -96,13 +96,14 @@ StandsFor-same history same capacity wider count close parts after old is wide a
     let clients : after.clients.items ≡ parts.clients.items = ap (λ (s : State). s.clients) alike in
     let room : (close ≡ None → length history + present_count after.clients.items + 1 ≤ wider) = λ none. rw clients (more (old.room none)) in
     let done : StandsFor history wider after count close = record {
-        legal = old.legal;
-        state = alike ∙ old.state;
-        sound = sound;
-        steps = few;
-        bytes = old.bytes;
-        closed = old.closed;
-        room = room } in
+      legal = old.legal;
+      state = alike ∙ old.state;
+      sound = sound;
+      steps = few;
+      bytes = old.bytes;
+      closed = old.closed;
+      room = room;
+    } in
     subst (λ (h : List Entry). StandsFor h wider after count close) (sym is) done
   where
     more : length history + present_count parts.clients.items + 1 ≤ capacity → length history + present_count parts.clients.items + 1 ≤ wider
@@ -117,13 +118,14 @@ next : (history : List Entry) (entry : Entry) (capacity wider count : ℕ) (clos
     (later ≡ None → length (history ++ entry ∷ []) + present_count after.clients.items + 1 ≤ wider) →
     StandsFor (history ++ entry ∷ []) wider after (count + act_bytes entry.act) later
 next history entry capacity wider count close later parts after old allowed is sound few ends room = record {
-    legal = IsLegal-more history entry old.legal allowed;
-    state = is ∙ ap (λ (s : State). (step s entry).state) old.state ∙ sym (state_after-more opening history entry);
-    sound = sound;
-    steps = few;
-    bytes = rw (source_bytes-more history entry, old.bytes) refl;
-    closed = ends;
-    room = room }
+  legal = IsLegal-more history entry old.legal allowed;
+  state = is ∙ ap (λ (s : State). (step s entry).state) old.state ∙ sym (state_after-more opening history entry);
+  sound = sound;
+  steps = few;
+  bytes = rw (source_bytes-more history entry, old.bytes) refl;
+  closed = ends;
+  room = room;
+}
 
 steps_more : (history : List Entry) (entry : Entry) (after : Parts) → length history < 4194304 →
     StepsAtMost (256 * min (length history) 4194304 + 256) after.world.threads.items → StepsAtMost (256 * min (length (history ++ entry ∷ [])) 4194304) after.world.threads.items
@@ -140,7 +142,7 @@ pub StandsFor-next : (history longer : List Entry) (entry : Entry) (capacity wid
     more ≡ count + act_bytes entry.act → length history + 67 ≤ wider → StandsFor longer wider after more close
 StandsFor-next history longer entry capacity wider count more close parts after old allowed stays short is same sound few bytes wide =
     let later : close ≡ closed_at (history ++ entry ∷ []) =
-        old.closed ∙ closed_at-open history allowed.open ∙ sym (closed_at-more history entry allowed.open stays) in
+    old.closed ∙ closed_at-open history allowed.open ∙ sym (closed_at-more history entry allowed.open stays) in
     let there : present_count after.clients.items ≤ length after.clients.items = count_by-le-length (λ (there : Bool). there) after.clients.items in
     let long : length (history ++ entry ∷ []) ≡ length history + 1 = simp length-append (omega arith) in
     let enough : length (history ++ entry ∷ []) + present_count after.clients.items + 1 ≤ wider = omega (arith, sound.clients) in
@@ -156,17 +158,17 @@ pub StandsFor-leave : (history longer : List Entry) (client capacity wider count
 StandsFor-leave history longer client capacity wider count close parts after old allowed is same sound threads wide =
     let entry : Entry = record { client = client; act = act.Leave } in
     let later : close ≡ closed_at (history ++ entry ∷ []) =
-        old.closed ∙ closed_at-open history allowed.open ∙ sym (closed_at-more history entry allowed.open refl) in
+    old.closed ∙ closed_at-open history allowed.open ∙ sym (closed_at-more history entry allowed.open refl) in
     let none : close ≡ None = old.closed ∙ closed_at-open history allowed.open in
     let room : length history + present_count parts.clients.items + 1 ≤ capacity = old.room none in
     let long : length (history ++ entry ∷ []) ≡ length history + 1 = simp length-append (omega arith) in
     let fewer : present_count after.clients.items + 1 ≡ present_count parts.clients.items =
-        ap (λ xs. present_count xs + 1) (ap (λ (s : State). s.clients) same)
-        ∙ fewer_present parts.clients.items client (ap (λ (s : State). slice_get s.clients client) old.state ∙ allowed.present) in
+    ap (λ xs. present_count xs + 1) (ap (λ (s : State). s.clients) same)
+    ∙ fewer_present parts.clients.items client (ap (λ (s : State). slice_get s.clients client) old.state ∙ allowed.present) in
     let enough : length (history ++ entry ∷ []) + present_count after.clients.items + 1 ≤ wider = omega arith in
     let loose : 256 * min (length history) 4194304 ≤ 256 * min (length (history ++ entry ∷ [])) 4194304 = omega arith in
     let few : StepsAtMost (256 * min (length (history ++ entry ∷ [])) 4194304) after.world.threads.items =
-        rw threads (StepsAtMost-weaker _ _ _ loose old.steps) in
+    rw threads (StepsAtMost-weaker _ _ _ loose old.steps) in
     let done = next history entry capacity wider count close close parts after old allowed same sound few later (λ _. enough) in
     let bytes : count ≡ count + 0 = omega arith in
     rw is (subst (λ (n : ℕ). StandsFor (history ++ entry ∷ []) wider after n close) (sym bytes) done)
@@ -211,10 +213,11 @@ Allows-fewer history client thread steps fewer allowed some few =
 pub IsSound-turned : (parts : Parts) (after : WorldParts) (book : List Record) → IsSound parts → book ≡ parts.book.items → IsWorld after (length book) →
     IsSound (record parts { world = after })
 IsSound-turned parts after book sound is world = record {
-    world = subst (λ (xs : List Record). IsWorld after (length xs)) is world;
-    generation = sound.generation;
-    book = sound.book;
-    clients = sound.clients }
+  world = subst (λ (xs : List Record). IsWorld after (length xs)) is world;
+  generation = sound.generation;
+  book = sound.book;
+  clients = sound.clients;
+}
 
 -- what a turn leaves stands for the step of its entry
 pub state-turned : (parts : Parts) (after : WorldParts) (book : List Record) (client thread steps : ℕ) → book ≡ parts.book.items →
@@ -230,6 +233,7 @@ kept_within asked done kept is some few = from (done == 0) refl is
     nonzero : (n : ℕ) → (n == 0) ≡ false → 1 ≤ n
     nonzero zero e = cc
     nonzero (suc n) e = omega arith
+
     from : (none : Bool) → (done == 0) ≡ none → kept ≡ (if none then asked else done) → (1 ≤ kept) × (kept ≤ asked)
     from true e same = let all : kept ≡ asked = same in (omega arith, omega arith)
     from false e same = let all : kept ≡ done = same in let more : 1 ≤ done = nonzero done e in (omega arith, omega arith)

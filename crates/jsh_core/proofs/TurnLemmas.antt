@@ -50,7 +50,7 @@ GoesOn-more book number done first now later ready is h = record { rest = λ lef
     whole left =
         let e : left + (done + 1) ≡ suc left + done = omega arith in
         let one : turned book number (suc left) now ≡ further 1 (turned book number left later) =
-            subst (λ (w : World). turned book number (suc left) now ≡ further 1 (turned book number left w)) (sym is) (turned-suc book number left now ready) in
+        subst (λ (w : World). turned book number (suc left) now ≡ further 1 (turned book number left w)) (sym is) (turned-suc book number left now ready) in
         ap (λ n. turned book number n first) e ∙ h.rest (suc left) ∙ ap (further done) one ∙ further-further done 1 (turned book number left later)
 
 -- where all was done

@@ -14,12 +14,15 @@ enter s = if nat_le 64 (length s.clients) then refuses s (refusal.Limit limit.Cl
 -- a client goes: its threads are stopped and its runs dropped
 abbrev pub leave : State → ℕ → Stepped
 leave s client = record {
-    state = record s {
-        world = record s.world {
-            states = stopped client s.world.states s.world.threads;
-            runs = map (dropped client) s.world.runs };
-        clients = slice_set s.clients client false };
-    reply = answer body.Left }
+  state = record s {
+    world = record s.world {
+      states = stopped client s.world.states s.world.threads;
+      runs = map (dropped client) s.world.runs;
+    };
+    clients = slice_set s.clients client false;
+  };
+  reply = answer body.Left;
+}
 
 -- nothing follows a close, and nothing else changes
 abbrev pub close : State → Stepped

@@ -93,7 +93,12 @@ impl Core {
 
     /// Does an entry, and answers it. After want of memory all is as before, but a turn keeps the
     /// steps that it has done. No act ticks yet.
-    pub fn apply<L: Ledger>(&mut self, alloc: Global, entry: Entry, _steps: &mut Steps<L>) -> Result<Reply, NoMemory>
+    pub fn apply<L: Ledger>(
+        &mut self,
+        alloc: Global,
+        entry: Entry,
+        _steps: &mut Steps<L>,
+    ) -> Result<Reply, NoMemory>
         requires { Allows self.old entry }
         ensures reply { IfOk result (λ reply. reply ≡ (step (state_of self.old) entry).reply) }
         ensures history { IfOk result (λ reply. self.new ≡ self.old ++ kept entry reply ∷ []) }
@@ -112,7 +117,11 @@ impl Core {
             Act::Collect { run } => self.apply_collect(alloc, client, run),
             Act::Leave => Ok(self.apply_leave(alloc, client)),
             Act::Close => Ok(self.apply_close(alloc, client)),
-            Act::Expire { .. } | Act::Stop { .. } | Act::Drop { .. } | Act::Ask { .. } | Act::Reset => unreachable!(),
+            Act::Expire { .. }
+            | Act::Stop { .. }
+            | Act::Drop { .. }
+            | Act::Ask { .. }
+            | Act::Reset => unreachable!(),
         }
     }
 
@@ -132,7 +141,12 @@ impl Core {
         Ok(reply)
     }
 
-    fn apply_submit(&mut self, alloc: Global, client: u32, source: SrcText) -> Result<Reply, NoMemory>
+    fn apply_submit(
+        &mut self,
+        alloc: Global,
+        client: u32,
+        source: SrcText,
+    ) -> Result<Reply, NoMemory>
         requires { Allows self.old (record { client = client; act = act.Submit source }) }
         ensures reply { IfOk result (λ reply. reply ≡ (step (state_of self.old) (record { client = client; act = act.Submit source })).reply) }
         ensures history { IfOk result (λ reply. self.new ≡ self.old ++ record { client = client; act = act.Submit source } ∷ []) }
@@ -149,14 +163,26 @@ impl Core {
         Ok(reply)
     }
 
-    fn apply_turn(&mut self, alloc: Global, client: u32, thread: u32, steps: u32) -> Result<Reply, NoMemory>
+    fn apply_turn(
+        &mut self,
+        alloc: Global,
+        client: u32,
+        thread: u32,
+        steps: u32,
+    ) -> Result<Reply, NoMemory>
         requires { Allows self.old (record { client = client; act = act.Turn thread steps }) }
         ensures reply { IfOk result (λ reply. reply ≡ (step (state_of self.old) (record { client = client; act = act.Turn thread steps })).reply) }
         ensures history { IfOk result (λ reply. self.new ≡ self.old ++ kept (record { client = client; act = act.Turn thread steps }) reply ∷ []) }
         ensures err { OnErr result (IsCutShort self.old (record { client = client; act = act.Turn thread steps }) self.new) }
     {
         self.history.reserve(LAST_ENTRIES)?;
-        match turn(&mut self.parts.world, &self.parts.book, alloc, thread, steps) {
+        match turn(
+            &mut self.parts.world,
+            &self.parts.book,
+            alloc,
+            thread,
+            steps,
+        ) {
             Ok(done) => {
                 let entry = Entry {
                     client,

@@ -16,8 +16,9 @@ pub returns-clause-world : goal.returns-clause-world
 returns-clause-world c = λ records h.
     let ends : Ends c.args.world.now.states.items c.args.number = Ends-ready _ _ c.requires.ready in
     record {
-        cells = h.cells;
-        states = simp length-set h.states;
-        threads = simp length-set h.threads;
-        runs = h.runs;
-        alive = omega (arith, ends.fewer, ends.alive, h.alive) }
+      cells = h.cells;
+      states = simp length-set h.states;
+      threads = simp length-set h.threads;
+      runs = h.runs;
+      alive = omega (arith, ends.fewer, ends.alive, h.alive);
+    }

@@ -20,4 +20,4 @@ invariant_of-self c =
     let allowed : Allows c.self.inside.history.items (record { client = c.args.client; act = act.Close }) = rw c.self.view_is c.requires in
     let place : length c.self.inside.history.items ≡ c.len.result = omega (arith, c.self.inside.history.ok.0, c.len.ensures) in
     subst (λ (n : ℕ). StandsFor c.push_reserved.new.items.items (vec_capacity c.push_reserved.new.items) c.self.inside.parts c.self.inside.bytes (Some n)) place
-        (StandsFor-close _ _ c.args.client _ _ _ _ _ c.self.invariant allowed c.push_reserved.ensures.items)
+    (StandsFor-close _ _ c.args.client _ _ _ _ _ c.self.invariant allowed c.push_reserved.ensures.items)

@@ -12,11 +12,11 @@ invariant_of-self-2 c =
     let entry : Entry = record { client = c.args.client; act = act.Collect c.args.run } in
     let allowed : Allows c.self.inside.history.items entry = rw c.self.view_is c.requires in
     let room : length c.self.inside.history.items + 67 ≤ vec_capacity c.push_reserved.new.items =
-        omega (arith, c.self.inside.history.ok.0, c.reserve.ensures.len, c.in_ok-reserve.ensures.ok, c.push_reserved.ensures.capacity) in
+    omega (arith, c.self.inside.history.ok.0, c.reserve.ensures.len, c.in_ok-reserve.ensures.ok, c.push_reserved.ensures.capacity) in
     StandsFor-next _ _ entry _ _ _ _ _ _ _ c.self.invariant allowed refl allowed.may
-        (c.push_reserved.ensures.items ∙ ap (λ (xs : List Entry). xs ++ entry ∷ []) c.reserve.ensures.items)
-        (ap (λ (s : Stepped). s.state) c.in_ok-reply.ensures.ok)
-        c.in_ok-reply.ensures.sound
-        (steps-quiet _ _ _ _ c.self.inside.parts c.collect_run.new.parts c.self.invariant c.in_ok-reply.ensures.threads)
-        (sym (add-zero _))
-        room
+    (c.push_reserved.ensures.items ∙ ap (λ (xs : List Entry). xs ++ entry ∷ []) c.reserve.ensures.items)
+    (ap (λ (s : Stepped). s.state) c.in_ok-reply.ensures.ok)
+    c.in_ok-reply.ensures.sound
+    (steps-quiet _ _ _ _ c.self.inside.parts c.collect_run.new.parts c.self.invariant c.in_ok-reply.ensures.threads)
+    (sym (add-zero _))
+    room

@@ -18,7 +18,7 @@ pub invariant_of-self : goal.invariant_of-self
 invariant_of-self c =
     let allowed : Allows c.self.inside.history.items (record { client = c.args.client; act = act.Leave }) = rw c.self.view_is c.requires in
     StandsFor-leave _ _ c.args.client _ _ _ _ _ _ c.self.invariant allowed c.push_reserved.ensures.items
-        (ap (λ (s : Stepped). s.state) c.dismiss_client-reply.ensures.ok)
-        c.dismiss_client-reply.ensures.sound
-        c.dismiss_client-reply.ensures.threads
-        c.push_reserved.ensures.capacity
+    (ap (λ (s : Stepped). s.state) c.dismiss_client-reply.ensures.ok)
+    c.dismiss_client-reply.ensures.sound
+    c.dismiss_client-reply.ensures.threads
+    c.push_reserved.ensures.capacity

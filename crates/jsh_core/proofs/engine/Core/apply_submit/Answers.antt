@@ -13,12 +13,12 @@ invariant_of-self-2 c =
     let entry : Entry = record { client = c.args.client; act = act.Submit c.args.source } in
     let allowed : Allows c.self.inside.history.items entry = rw c.self.view_is c.requires in
     let room : length c.self.inside.history.items + 67 ≤ vec_capacity c.push_reserved.new.items =
-        omega (arith, c.self.inside.history.ok.0, c.reserve.ensures.len, c.in_ok-reserve.ensures.ok, c.push_reserved.ensures.capacity) in
+    omega (arith, c.self.inside.history.ok.0, c.reserve.ensures.len, c.in_ok-reserve.ensures.ok, c.push_reserved.ensures.capacity) in
     let wide : 256 * min (length c.self.inside.history.items) 4194304 ≤ 256 * min (length c.self.inside.history.items) 4194304 + 256 = omega arith in
     StandsFor-next _ _ entry _ _ _ _ _ _ _ c.self.invariant allowed refl allowed.may.0
-        (c.push_reserved.ensures.items ∙ ap (λ (xs : List Entry). xs ++ entry ∷ []) c.reserve.ensures.items)
-        (ap (λ (s : Stepped). s.state) c.in_ok-reply.ensures.ok)
-        c.in_ok-reply.ensures.sound
-        (StepsAtMost-weaker _ _ _ wide (c.in_ok-reply.ensures.steps _ c.self.invariant.steps))
-        (ap (λ (text : List ℕ). c.self.inside.bytes + length text) c.as_str.ensures)
-        room
+    (c.push_reserved.ensures.items ∙ ap (λ (xs : List Entry). xs ++ entry ∷ []) c.reserve.ensures.items)
+    (ap (λ (s : Stepped). s.state) c.in_ok-reply.ensures.ok)
+    c.in_ok-reply.ensures.sound
+    (StepsAtMost-weaker _ _ _ wide (c.in_ok-reply.ensures.steps _ c.self.invariant.steps))
+    (ap (λ (text : List ℕ). c.self.inside.bytes + length text) c.as_str.ensures)
+    room
