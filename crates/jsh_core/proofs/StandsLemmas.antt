@@ -1,17 +1,15 @@
 -- What stands for a history, when an entry more comes.
-use Rattle.std.proofs.Common.{◌≡◌, ℕ, suc, zero, ◌+◌, ◌*◌, ◌<◌, ◌≤◌, Bool, true, false, cond, List, [], ◌∷◌, ◌++◌, Option, None, Some, length, min, set, get_or, refl, ap, sym, subst, ◌∙◌, arith, append_assoc, append-nil, length-append, length-set, add-zero}
+use Rattle.std.proofs.Common.{◌≡◌, ℕ, suc, zero, ◌+◌, ◌*◌, ◌<◌, ◌≤◌, Bool, true, false, cond, List, [], ◌∷◌, ◌++◌, Option, None, Some, length, min, set, get_or, refl, ap, sym, subst, ◌∙◌, arith, append_assoc, append-nil, length-append, add-zero}
 use Rattle.std.specs.Prelude.{◌||◌, ◌==◌, if◌then◌else◌, not, eqb}
 use Rattle.std.proofs.Math.Nat.{le_refl}
 use Rattle.std.proofs.lemmas.Bool.{le-ltb, lt-ltb}
 use Rattle.std.proofs.lemmas.Bool.Decides.{nat_tests}
 use Rattle.std.proofs.lemmas.List.Folds.{position_or_len_push}
-use Rattle.std.specs.List.{count_by, slice_get, sum_by, position, position_or_len, list_any}
+use Rattle.std.specs.List.{slice_get, sum_by, position_or_len, list_any}
 use Rattle.std.proofs.lemmas.List.Sums.{sum_by-append, sum_by-set, count_by-le-length}
 use Rattle.std.proofs.lemmas.Option.{get_or_from_slice_get, slice_get_within}
-use Rattle.jsh_snippet.specs.declared.acts.Act.{Act}
 use Rattle.jsh_snippet.specs.declared.acts.Act.TheVariants as act
 use Rattle.jsh_snippet.specs.declared.acts.Entry.{Entry}
-use Rattle.jsh_core.specs.declared.world.Thread.{Thread}
 use Rattle.jsh_snippet.specs.declared.records.Record.{Record}
 use Rattle.jsh_core.specs.declared.parts.Parts.{Parts}
 use Rattle.jsh_core.specs.declared.parts.WorldParts.{WorldParts}
@@ -19,7 +17,7 @@ use Rattle.jsh_core.specs.State.{State, World, opening}
 use Rattle.jsh_core.specs.Parts.{state_from, world_of, IsSound, IsWorld, StepsAtMost}
 use Rattle.jsh_core.specs.Threads.{turned}
 use Rattle.jsh_core.specs.Step.{step}
-use Rattle.jsh_core.specs.History.{state_after, state_of, source_bytes, act_bytes, is_close, closed_at, Allows, IsLegalAfter, IsLegal}
+use Rattle.jsh_core.specs.History.{state_after, source_bytes, act_bytes, is_close, closed_at, Allows, IsLegalAfter, IsLegal}
 use Rattle.jsh_core.specs.Stands.{StandsFor, present_count}
 use Rattle.jsh_core.proofs.Bounds.{StepsAtMost-weaker}
 

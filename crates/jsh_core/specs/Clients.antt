@@ -1,9 +1,9 @@
 -- How clients come and go.
-use Rattle.std.specs.Prelude.{ℕ, List, [], ◌∷◌, ◌++◌, length, true, false, nat_le, if◌then◌else◌, slice_set, map}
+use Rattle.std.specs.Prelude.{ℕ, [], ◌∷◌, ◌++◌, length, true, false, nat_le, if◌then◌else◌, slice_set, map}
 use Rattle.jsh_snippet.specs.declared.replies.ReplyBody.TheVariants as body
 use Rattle.jsh_snippet.specs.declared.replies.Refusal.TheVariants as refusal
 use Rattle.jsh_snippet.specs.declared.replies.LimitKind.TheVariants as limit
-use Rattle.jsh_core.specs.State.{State, World, Stepped, answer, refuses}
+use Rattle.jsh_core.specs.State.{State, Stepped, answer, refuses}
 use Rattle.jsh_core.specs.Runs.{stopped, dropped}
 
 -- a further client gets the next number, up to a limit

@@ -1,5 +1,5 @@
 -- What becomes of runs.
-use Rattle.std.specs.Prelude.{ℕ, ◌-◌, ◌==◌, List, Option, None, Some, Bool, true, false, not, ◌&&◌, if◌then◌else◌, slice_set, map, [], ◌∷◌}
+use Rattle.std.specs.Prelude.{ℕ, ◌-◌, ◌==◌, List, Option, None, Some, Bool, true, false, not, ◌&&◌, if◌then◌else◌, slice_set, [], ◌∷◌}
 use Rattle.std.specs.Option.{option_and_then, option_map_or}
 use Rattle.jsh_snippet.specs.declared.replies.ReplyBody.TheVariants as body
 use Rattle.jsh_snippet.specs.declared.replies.Collected.{Collected}

@@ -1,7 +1,6 @@
 -- What a snippet is, and what its submission changes.
 use Rattle.std.specs.Prelude.{ℕ, ◌+◌, List, [], ◌∷◌, ◌++◌, Option, None, Some, length, true, false, if◌then◌else◌, nat_le, pos, codes, decimal}
 use Rattle.std.specs.List.{count_by}
-use Rattle.jsh_tree.specs.declared.tree.Tree.{Tree}
 use Rattle.jsh_tree.specs.declared.tree.Tree.TheVariants as tree
 use Rattle.jsh_tree.specs.declared.tree.Sum.{Sum}
 use Rattle.jsh_tree.specs.declared.diagnostic.Code.TheVariants as code
@@ -20,7 +19,7 @@ use Rattle.jsh_snippet.specs.declared.replies.LimitKind.TheVariants as limit
 use Rattle.jsh_sched.specs.declared.ThreadState.TheVariants as thread_state
 use Rattle.jsh_sched.specs.ThreadState.{is_alive}
 use Rattle.jsh_sum.specs.Reading.{sum_of}
-use Rattle.jsh_core.specs.State.{State, World, Stepped, answer, refuses}
+use Rattle.jsh_core.specs.State.{State, Stepped, answer, refuses}
 
 -- the tree of a source that is accepted, and None for one that is rejected: sums alone are in the language so far
 abbrev pub verdict : List ℕ → Option Sum

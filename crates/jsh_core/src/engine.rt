@@ -317,3 +317,6 @@ impl Core {
         history
     }
 }
+
+#[cfg(test)]
+mod tests;

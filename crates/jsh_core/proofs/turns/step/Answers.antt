@@ -1,5 +1,5 @@
 -- The last step of a run returns the text of the value.
-use Rattle.std.proofs.Common.{◌≡◌, ◌==◌, false, rules, arith, ap, sym, subst, ◌∙◌, Option, Some}
+use Rattle.std.proofs.Common.{◌≡◌, ◌==◌, false, rules, ap, sym, subst, ◌∙◌, Option, Some}
 use Rattle.std.specs.Fmt.{signed_decimal}
 use Rattle.std.specs.Option.{IfSome}
 use Rattle.jsh_core.specs.declared.world.Thread.{Thread}

@@ -1,10 +1,10 @@
 -- Step by step, the turn goes on.
-use Rattle.std.proofs.Common.{◌≡◌, ◌≤◌, ◌<◌, ◌+◌, ◌-◌, ◌^◌, ℕ, ap, sym, subst, ◌∙◌, arith, rules}
-use Rattle.jsh_core.specs.Parts.{StepsAtMost, IsWorld, world_of}
+use Rattle.std.proofs.Common.{◌≡◌, ◌≤◌, ◌+◌, ◌^◌, ℕ, ap, sym, subst, ◌∙◌, arith}
+use Rattle.jsh_core.specs.Parts.{world_of}
 use Rattle.jsh_core.specs.State.{World}
 use Rattle.jsh_core.specs.Threads.{turned, Turned}
 use Rattle.jsh_core.proofs.Bounds.{StepsAtMost-weaker}
-use Rattle.jsh_core.proofs.TurnLemmas.{GoesOn, GoesOn-more, GoesOn-done, GoesOn-stuck}
+use Rattle.jsh_core.proofs.TurnLemmas.{GoesOn-more, GoesOn-done, GoesOn-stuck}
 use Rattle.jsh_core.proofs.turns.turn.Goals as goal
 
 pub step-requires-clause-few : goal.step-requires-clause-few

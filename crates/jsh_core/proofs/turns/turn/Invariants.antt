@@ -1,5 +1,5 @@
 -- What is left of the turn, from the world as it is, is what is left of the whole turn.
-use Rattle.std.proofs.Common.{◌≡◌, ℕ, ◌+◌, ◌-◌, ◌≤◌, length}
+use Rattle.std.proofs.Common.{ℕ, ◌+◌, ◌-◌, ◌≤◌, length}
 use Rattle.jsh_core.specs.Parts.{world_of, IsWorld, StepsAtMost}
 use Rattle.jsh_core.proofs.TurnLemmas.{GoesOn}
 use Rattle.jsh_core.proofs.turns.turn.Given as goal

@@ -1,8 +1,7 @@
 -- What is kept stands for the history with this entry, for which there was room.
-use Rattle.std.proofs.Common.{◌≡◌, ◌+◌, ◌≤◌, ◌∷◌, ◌++◌, [], List, length, vec_capacity, ap, refl, sym, ◌∙◌, arith, add-zero, ◌<◌, vec_len, Some, ℕ, subst}
+use Rattle.std.proofs.Common.{◌≡◌, ◌+◌, ◌≤◌, length, vec_capacity, arith, Some, ℕ, subst}
 use Rattle.jsh_snippet.specs.declared.acts.Act.TheVariants as act
 use Rattle.jsh_snippet.specs.declared.acts.Entry.{Entry}
-use Rattle.jsh_core.specs.State.{Stepped}
 use Rattle.jsh_core.specs.History.{Allows}
 use Rattle.jsh_core.specs.Stands.{StandsFor}
 use Rattle.jsh_core.proofs.StandsLemmas.{StandsFor-close, room-open}

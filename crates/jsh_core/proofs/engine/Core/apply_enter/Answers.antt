@@ -1,5 +1,5 @@
 -- What is kept stands for the history with this entry.
-use Rattle.std.proofs.Common.{◌≡◌, ◌+◌, ◌≤◌, ◌∷◌, ◌++◌, [], List, length, vec_capacity, ap, refl, sym, ◌∙◌, arith, add-zero}
+use Rattle.std.proofs.Common.{◌+◌, ◌≤◌, ◌∷◌, ◌++◌, [], List, length, vec_capacity, ap, refl, sym, ◌∙◌, arith, add-zero}
 use Rattle.jsh_snippet.specs.declared.acts.Act.TheVariants as act
 use Rattle.jsh_snippet.specs.declared.acts.Entry.{Entry}
 use Rattle.jsh_core.specs.State.{Stepped}

@@ -1,5 +1,5 @@
 -- What is kept stands for the history with this entry, for which there was room.
-use Rattle.std.proofs.Common.{◌≡◌, ◌+◌, ◌≤◌, ◌∷◌, ◌++◌, [], List, length, vec_capacity, ap, refl, sym, ◌∙◌, arith, add-zero, ◌<◌, vec_len}
+use Rattle.std.proofs.Common.{◌+◌, ◌≤◌, length, vec_capacity, ap, arith}
 use Rattle.jsh_snippet.specs.declared.acts.Act.TheVariants as act
 use Rattle.jsh_snippet.specs.declared.acts.Entry.{Entry}
 use Rattle.jsh_core.specs.State.{Stepped}

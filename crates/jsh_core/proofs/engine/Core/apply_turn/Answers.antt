@@ -1,11 +1,10 @@
 -- What is kept stands for the history with this entry.
-use Rattle.std.proofs.Common.{◌≡◌, ◌+◌, ◌≤◌, ◌∷◌, ◌++◌, [], List, length, vec_capacity, ap, refl, sym, ◌∙◌, arith, add-zero, ℕ, ◌==◌, if◌then◌else◌, ◌<◌}
+use Rattle.std.proofs.Common.{◌≡◌, ◌+◌, ◌≤◌, ◌∷◌, ◌++◌, [], List, length, vec_capacity, ap, refl, sym, ◌∙◌, arith, add-zero, ◌<◌}
 use Rattle.jsh_snippet.specs.declared.acts.Act.TheVariants as act
 use Rattle.jsh_snippet.specs.declared.acts.Entry.{Entry}
-use Rattle.jsh_core.specs.State.{State, World}
+use Rattle.jsh_core.specs.State.{World}
 use Rattle.jsh_core.specs.History.{Allows}
-use Rattle.jsh_core.specs.declared.world.Thread.{Thread}
-use Rattle.jsh_core.specs.Parts.{world_of, StepsAtMost}
+use Rattle.jsh_core.specs.Parts.{world_of}
 use Rattle.jsh_core.specs.Threads.{turned, Turned}
 use Rattle.jsh_core.proofs.TurnLemmas.{turned-at_most, turned-kept-asked, turned-zero}
 use Rattle.jsh_core.proofs.StandsLemmas.{StandsFor-next, StandsFor-same, Allows-fewer, IsSound-turned, state-turned, kept_within}
