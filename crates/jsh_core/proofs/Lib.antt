@@ -1,4 +1,6 @@
 pub mod Bounds
+pub mod ClientLemmas
+pub mod StandsLemmas
 pub mod TurnLemmas
 pub mod WorldLemmas
 pub mod Evaluation

@@ -1,5 +1,6 @@
 -- Turns step by step.
-use Rattle.std.proofs.Common.{◌≡◌, ℕ, suc, zero, ◌+◌, ◌-◌, ◌≤◌, Bool, true, false, List, refl, ap, ◌∙◌, sym, subst, arith, add-zero, zero-add, Some, ◌==◌}
+use Rattle.std.proofs.Common.{◌≡◌, ℕ, suc, zero, ◌+◌, ◌-◌, ◌≤◌, Bool, true, false, List, refl, ap, ◌∙◌, sym, subst, arith, add-zero, add-one, zero-add, Some, ◌==◌, if◌then◌else◌}
+use Rattle.std.proofs.Math.Nat.{le_refl}
 use Rattle.std.specs.Fmt.{signed_decimal}
 use Rattle.jsh_tree.specs.declared.tree.Tree.{Tree}
 use Rattle.jsh_snippet.specs.declared.records.Record.{Record}
@@ -49,7 +50,7 @@ GoesOn-more book number done first now later ready is h = record { rest = λ lef
     whole left =
         let e : left + (done + 1) ≡ suc left + done = omega arith in
         let one : turned book number (suc left) now ≡ further 1 (turned book number left later) =
-            subst (λ (w : World). turned book number (suc left) now ≡ further 1 (turned book number left w)) (sym is) (turned-suc book number left now ready) in
+        subst (λ (w : World). turned book number (suc left) now ≡ further 1 (turned book number left w)) (sym is) (turned-suc book number left now ready) in
         ap (λ n. turned book number n first) e ∙ h.rest (suc left) ∙ ap (further done) one ∙ further-further done 1 (turned book number left later)
 
 -- where all was done
@@ -76,3 +77,36 @@ pub stepped-returns : (book : List Record) (w : World) (number : ℕ) (t : Threa
     t.frame ≡ Some frame → Some body ≡ tree_of book frame.snippet → (frame.answers == 0) ≡ false →
     stepped book w number ≡ performed w number t frame (Returns (signed_decimal (tree_value body)))
 stepped-returns book w number t frame body there running snippet later = rw (← there, running, ← snippet, later) refl
+
+-- a turn does no more steps than it may
+pub turned-at_most : (book : List Record) (number most : ℕ) (w : World) → (turned book number most w).steps ≤ most
+turned-at_most book number zero w = rw turned-zero (le_refl 0)
+turned-at_most book number (suc most) w = from (can_go_on w number) refl (turned-at_most book number most (stepped book w number))
+  where
+    from : (ready : Bool) → can_go_on w number ≡ ready → (turned book number most (stepped book w number)).steps ≤ most → (turned book number (suc most) w).steps ≤ suc most
+    from true e rest = rw (turned-suc book number most w e) (omega arith)
+    from false e rest = rw (turned-stuck book number (suc most) w e) (omega arith)
+
+-- a turn of just the steps that a longer one has done comes to the same
+pub turned-kept : (book : List Record) (number most : ℕ) (w : World) → turned book number (turned book number most w).steps w ≡ turned book number most w
+turned-kept book number zero w = rw turned-zero (turned-zero book number w)
+turned-kept book number (suc most) w = from (can_go_on w number) refl (turned-kept book number most (stepped book w number))
+  where
+    from : (ready : Bool) → can_go_on w number ≡ ready → turned book number (turned book number most (stepped book w number)).steps (stepped book w number) ≡ turned book number most (stepped book w number) →
+        turned book number (turned book number (suc most) w).steps w ≡ turned book number (suc most) w
+    from true e h =
+        let whole : turned book number (suc most) w ≡ further 1 (turned book number most (stepped book w number)) = turned-suc book number most w e in
+        let count : (turned book number (suc most) w).steps ≡ suc (turned book number most (stepped book w number)).steps = ap (λ (t : Turned). t.steps) whole ∙ add-one (turned book number most (stepped book w number)).steps in
+        ap (λ n. turned book number n w) count
+        ∙ turned-suc book number (turned book number most (stepped book w number)).steps w e
+        ∙ ap (further 1) h ∙ sym whole
+    from false e h = turned-stuck book number (turned book number (suc most) w).steps w e ∙ sym (turned-stuck book number (suc most) w e)
+
+-- the same where a turn that has done nothing is kept as it was asked for
+pub turned-kept-asked : (book : List Record) (number most done : ℕ) (w : World) → done ≡ (turned book number most w).steps →
+    turned book number (if done == 0 then most else done) w ≡ turned book number most w
+turned-kept-asked book number most done w is = from (done == 0)
+  where
+    from : (none : Bool) → turned book number (if none then most else done) w ≡ turned book number most w
+    from true = refl
+    from false = ap (λ n. turned book number n w) is ∙ turned-kept book number most w

@@ -1,5 +1,5 @@
 -- What becomes of runs.
-use Rattle.std.specs.Prelude.{ℕ, ◌-◌, ◌==◌, List, Option, None, Some, Bool, true, false, not, ◌&&◌, if◌then◌else◌, slice_set, map, [], ◌∷◌}
+use Rattle.std.specs.Prelude.{ℕ, ◌-◌, ◌==◌, List, Option, None, Some, Bool, true, false, not, ◌&&◌, if◌then◌else◌, slice_set, [], ◌∷◌}
 use Rattle.std.specs.Option.{option_and_then, option_map_or}
 use Rattle.jsh_snippet.specs.declared.replies.ReplyBody.TheVariants as body
 use Rattle.jsh_snippet.specs.declared.replies.Collected.{Collected}
@@ -37,8 +37,9 @@ abbrev pub own_run : State → ℕ → Run → Stepped
 own_run s number run =
     let text = returned_text s.world run in
     record {
-        state = record s { world = record s.world { runs = handed_out s.world.runs number run text } };
-        reply = answer (body.Collected (standing s.world run text)) }
+      state = record s { world = record s.world { runs = handed_out s.world.runs number run text } };
+      reply = answer (body.Collected (standing s.world run text));
+    }
 
 abbrev pub collect_run : State → ℕ → ℕ → Option Run → Stepped
 collect_run s client number None = refuses s (refusal.NoSuchRun number)

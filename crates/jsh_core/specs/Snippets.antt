@@ -1,7 +1,6 @@
 -- What a snippet is, and what its submission changes.
 use Rattle.std.specs.Prelude.{ℕ, ◌+◌, List, [], ◌∷◌, ◌++◌, Option, None, Some, length, true, false, if◌then◌else◌, nat_le, pos, codes, decimal}
 use Rattle.std.specs.List.{count_by}
-use Rattle.jsh_tree.specs.declared.tree.Tree.{Tree}
 use Rattle.jsh_tree.specs.declared.tree.Tree.TheVariants as tree
 use Rattle.jsh_tree.specs.declared.tree.Sum.{Sum}
 use Rattle.jsh_tree.specs.declared.diagnostic.Code.TheVariants as code
@@ -21,7 +20,7 @@ use Rattle.jsh_snippet.specs.declared.replies.LimitKind.TheVariants as limit
 use Rattle.jsh_sched.specs.declared.ThreadState.TheVariants as thread_state
 use Rattle.jsh_sched.specs.ThreadState.{is_alive}
 use Rattle.jsh_sum.specs.Reading.{sum_of}
-use Rattle.jsh_core.specs.State.{State, World, Stepped, answer, refuses}
+use Rattle.jsh_core.specs.State.{State, Stepped, answer, refuses}
 
 -- the tree of a source that is accepted, and None for one that is rejected: sums alone are in the language so far
 abbrev pub verdict : List ℕ → Option Sum
@@ -30,12 +29,13 @@ verdict source = sum_of source
 -- the record of a snippet that is accepted, a temporary variable of type int
 abbrev pub accepted_record : ℕ → List ℕ → Sum → Record
 accepted_record id source sum = record {
-    id = id;
-    source = source;
-    tree = Some (tree.Sum sum);
-    fixed = Some (record { name = codes "int"; dims = 0 });
-    kind = Some kind.Var;
-    fate = fate.Live }
+  id = id;
+  source = source;
+  tree = Some (tree.Sum sum);
+  fixed = Some (record { name = codes "int"; dims = 0 });
+  kind = Some kind.Var;
+  fate = fate.Live;
+}
 
 -- the record of a snippet that is rejected
 abbrev pub rejected_record : ℕ → List ℕ → Record
@@ -49,37 +49,40 @@ temporary_name id = 36 ∷ decimal id
 -- the snippet becomes valid, and its variable begins at the default value
 abbrev pub accepted_event : ℕ → Event
 accepted_event id = record {
-    id = id;
-    name = temporary_name id;
-    before = status.Nonexistent;
-    after = status.Valid;
-    signature_changed = true;
-    reset = Some (codes "0");
-    cause = None }
+  id = id;
+  name = temporary_name id;
+  before = status.Nonexistent;
+  after = status.Valid;
+  signature_changed = true;
+  reset = Some (codes "0");
+  cause = None;
+}
 
 abbrev pub rejected_event : ℕ → Event
 rejected_event id = record {
-    id = id;
-    name = [];
-    before = status.Nonexistent;
-    after = status.Rejected;
-    signature_changed = false;
-    reset = None;
-    cause = None }
+  id = id;
+  name = [];
+  before = status.Nonexistent;
+  after = status.Rejected;
+  signature_changed = false;
+  reset = None;
+  cause = None;
+}
 
 -- the answer for a snippet that is accepted and has this run
 abbrev pub accepted_reply : ℕ → ℕ → Submitted
 accepted_reply id run = record {
-    id = id;
-    kind = kind.Var;
-    subkind = subkind.TempVarExpression;
-    name = temporary_name id;
-    events = accepted_event id ∷ [];
-    ignored = [];
-    diagnostics = [];
-    unresolved = [];
-    run = Some run;
-    value = None }
+  id = id;
+  kind = kind.Var;
+  subkind = subkind.TempVarExpression;
+  name = temporary_name id;
+  events = accepted_event id ∷ [];
+  ignored = [];
+  diagnostics = [];
+  unresolved = [];
+  run = Some run;
+  value = None;
+}
 
 -- a source that isn't in the language yet has this one diagnostic
 abbrev pub not_yet : Diagnostic
@@ -87,26 +90,29 @@ not_yet = record { code = code.NotYet; place = 0; name = None }
 
 abbrev pub rejected_reply : ℕ → Submitted
 rejected_reply id = record {
-    id = id;
-    kind = kind.Erroneous;
-    subkind = subkind.Unknown;
-    name = [];
-    events = rejected_event id ∷ [];
-    ignored = [];
-    diagnostics = not_yet ∷ [];
-    unresolved = [];
-    run = None;
-    value = None }
+  id = id;
+  kind = kind.Erroneous;
+  subkind = subkind.Unknown;
+  name = [];
+  events = rejected_event id ∷ [];
+  ignored = [];
+  diagnostics = not_yet ∷ [];
+  unresolved = [];
+  run = None;
+  value = None;
+}
 
 -- a rejected snippet leaves a record and nothing else
 abbrev pub rejected : State → List ℕ → Stepped
 rejected s source =
     let id = length s.book + 1 in
     record {
-        state = record s {
-            book = s.book ++ rejected_record id source ∷ [];
-            world = record s.world { cells = s.world.cells ++ None ∷ [] } };
-        reply = answer (body.Submitted (rejected_reply id)) }
+      state = record s {
+        book = s.book ++ rejected_record id source ∷ [];
+        world = record s.world { cells = s.world.cells ++ None ∷ [] };
+      };
+      reply = answer (body.Submitted (rejected_reply id));
+    }
 
 -- an accepted one publishes a generation, and has a variable and a run, whose main thread is new
 abbrev pub accepted : State → ℕ → List ℕ → Sum → Stepped
@@ -115,16 +121,23 @@ accepted s client source sum =
     let main = length s.world.threads + 1 in
     let run = length s.world.runs + 1 in
     record {
-        state = record s {
-            book = s.book ++ accepted_record id source sum ∷ [];
-            generation = s.generation + 1;
-            world = record {
-                cells = s.world.cells ++ Some (value.Int (pos 0)) ∷ [];
-                states = s.world.states ++ thread_state.Ready ∷ [];
-                threads = s.world.threads ++ record {
-                    owner = client; steps = 0; frame = Some (record { snippet = id; answers = 0 }); returned = None } ∷ [];
-                runs = s.world.runs ++ record { owner = client; main = main; snippet = id; gone = false } ∷ [] } };
-        reply = answer (body.Submitted (accepted_reply id run)) }
+      state = record s {
+        book = s.book ++ accepted_record id source sum ∷ [];
+        generation = s.generation + 1;
+        world = record {
+          cells = s.world.cells ++ Some (value.Int (pos 0)) ∷ [];
+          states = s.world.states ++ thread_state.Ready ∷ [];
+          threads = s.world.threads ++ record {
+            owner = client;
+            steps = 0;
+            frame = Some (record { snippet = id; answers = 0 });
+            returned = None;
+          } ∷ [];
+          runs = s.world.runs ++ record { owner = client; main = main; snippet = id; gone = false } ∷ [];
+        };
+      };
+      reply = answer (body.Submitted (accepted_reply id run));
+    }
 
 -- how many threads are alive
 abbrev pub alive_count : State → ℕ

@@ -4,10 +4,8 @@ use Rattle.std.specs.List.{count_by}
 use Rattle.jsh_snippet.specs.declared.acts.Act.{Act}
 use Rattle.jsh_snippet.specs.declared.acts.Act.TheVariants as act
 use Rattle.jsh_snippet.specs.declared.acts.Entry.{Entry}
-use Rattle.jsh_snippet.specs.declared.replies.Reply.{Reply}
 use Rattle.jsh_core.specs.declared.parts.Parts.{Parts}
 use Rattle.jsh_core.specs.Parts.{state_from, IsSound, StepsAtMost}
-use Rattle.jsh_core.specs.Step.{step, kept}
 use Rattle.jsh_core.specs.History.{IsLegal, state_of, source_bytes, closed_at}
 
 -- how many clients are there

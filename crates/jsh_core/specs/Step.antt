@@ -1,5 +1,5 @@
 -- What an entry does, and what is replied to it.
-use Rattle.std.specs.Prelude.{ℕ, [], ◌==◌, Option, None, Some, if◌then◌else◌}
+use Rattle.std.specs.Prelude.{ℕ, [], ◌==◌, if◌then◌else◌}
 use Rattle.jsh_snippet.specs.declared.acts.Act.{Act}
 use Rattle.jsh_snippet.specs.declared.acts.Act.TheVariants as act
 use Rattle.jsh_snippet.specs.declared.acts.Entry.{Entry}

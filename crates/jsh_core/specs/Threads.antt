@@ -30,13 +30,16 @@ next body answers = if answers == 0 then Sets (tree_value body) else Returns (si
 -- what a thread with this number and this frame does to the world
 abbrev pub performed : World → ℕ → Thread → Frame → Next → World
 performed w number thread frame (Sets v) = record w {
-    cells = slice_set w.cells (frame.snippet - 1) (Some (value.Int v));
-    threads = slice_set w.threads (number - 1) (record thread {
-        steps = thread.steps + 1;
-        frame = Some (record frame { answers = frame.answers + 1 }) }) }
+  cells = slice_set w.cells (frame.snippet - 1) (Some (value.Int v));
+  threads = slice_set w.threads (number - 1) (record thread {
+    steps = thread.steps + 1;
+    frame = Some (record frame { answers = frame.answers + 1 });
+  });
+}
 performed w number thread frame (Returns text) = record w {
-    states = slice_set w.states (number - 1) thread_state.Ended;
-    threads = slice_set w.threads (number - 1) (record thread { steps = thread.steps + 1; frame = None; returned = Some text }) }
+  states = slice_set w.states (number - 1) thread_state.Ended;
+  threads = slice_set w.threads (number - 1) (record thread { steps = thread.steps + 1; frame = None; returned = Some text });
+}
 
 -- the tree of the snippet with this number
 abbrev pub tree_of : List Record → ℕ → Option Tree

@@ -1,5 +1,6 @@
-ghost use Rattle.std.specs.Prelude.{◌≡◌, ◌<◌, ℕ, length, map, IfOk, OnErr};
+ghost use Rattle.std.specs.Prelude.{◌≡◌, ◌<◌, ◌==◌, ◌&&◌, if◌then◌else◌, length, map, IfOk, OnErr};
 ghost use Rattle.std.specs.List.{count_by};
+ghost use Rattle.jsh_sched.specs.declared.ThreadState.TheVariants as thread_state;
 ghost use Rattle.jsh_sched.specs.ThreadState.{is_alive};
 ghost use Rattle.jsh_core.specs.Clients.{enter, leave};
 ghost use Rattle.jsh_core.specs.Runs.{dropped, stopped};
@@ -45,15 +46,34 @@ pub fn number_client(parts: &mut Parts, alloc: Global) -> Result<Reply, NoMemory
     ))
 }
 
+/// The state of a thread after a client's threads are stopped.
+fn stopped_for(client: u32, state: ThreadState, thread: &Thread) -> ThreadState
+    ensures { result ≡ (if is_alive state && (thread.now.owner == client) then thread_state.Stopped else state) }
+{
+    if state.is_alive() && thread.owner == client {
+        ThreadState::Stopped
+    } else {
+        state
+    }
+}
+
 /// Stops a client's threads.
 fn stop_threads(states: &mut [ThreadState], threads: &[Thread], client: u32)
     requires { length states.old ≡ length threads.now }
     ensures { states.new ≡ stopped client states.old threads.now }
 {
     for i in 0..states.len() {
-        if states[i].is_alive() && threads[i].owner == client {
-            states[i] = ThreadState::Stopped;
-        }
+        states[i] = stopped_for(client, states[i], &threads[i]);
+    }
+}
+
+/// A run after a client's runs are dropped.
+fn dropped_for(client: u32, run: Run) -> Run
+    ensures { result ≡ dropped client run }
+{
+    Run {
+        gone: run.gone || run.owner == client,
+        ..run
     }
 }
 
@@ -62,9 +82,7 @@ fn drop_runs(runs: &mut [Run], client: u32)
     ensures { runs.new ≡ map (dropped client) runs.old }
 {
     for run in runs.iter_mut() {
-        if run.owner == client {
-            run.gone = true;
-        }
+        *run = dropped_for(client, *run);
     }
 }
 

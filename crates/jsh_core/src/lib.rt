@@ -2,7 +2,7 @@
 #![tactic(auto)]
 
 mod clients;
-mod core;
+mod engine;
 mod lists;
 mod parts;
 mod runs;
@@ -10,5 +10,5 @@ mod snippets;
 mod turns;
 mod world;
 
-pub use core::Core;
+pub use engine::Core;
 pub use world::RunView;

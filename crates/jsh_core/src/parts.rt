@@ -58,10 +58,11 @@ pub fn add_run(world: &mut WorldParts, client: u32, snippet: u32, main: u32)
     requires runs { vec_len world.old.runs < vec_capacity world.old.runs }
     requires few { world.old.alive < 256 }
     ensures after { world_of world.new ≡ record {
-        cells = world.old.cells.items ++ Some (value.Int (pos 0)) ∷ [];
-        states = world.old.states.items ++ thread_state.Ready ∷ [];
-        threads = world.old.threads.items ++ record { owner = client; steps = 0; frame = Some (record { snippet = snippet; answers = 0 }); returned = None } ∷ [];
-        runs = world.old.runs.items ++ record { owner = client; main = main; snippet = snippet; gone = false } ∷ [] } }
+      cells = world.old.cells.items ++ Some (value.Int (pos 0)) ∷ [];
+      states = world.old.states.items ++ thread_state.Ready ∷ [];
+      threads = world.old.threads.items ++ record { owner = client; steps = 0; frame = Some (record { snippet = snippet; answers = 0 }); returned = None } ∷ [];
+      runs = world.old.runs.items ++ record { owner = client; main = main; snippet = snippet; gone = false } ∷ [];
+    } }
     ensures alive { world.new.alive ≡ world.old.alive + 1 }
 {
     push_reserved(&mut world.cells, Some(Value::Int(0)));

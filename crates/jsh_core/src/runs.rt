@@ -62,7 +62,12 @@ fn collect_own(parts: &mut Parts, alloc: Global, number: u32, run: Run) -> Resul
 }
 
 /// The outcome of a run is asked for.
-pub fn collect_run(parts: &mut Parts, alloc: Global, client: u32, number: u32) -> Result<Reply, NoMemory>
+pub fn collect_run(
+    parts: &mut Parts,
+    alloc: Global,
+    client: u32,
+    number: u32,
+) -> Result<Reply, NoMemory>
     requires sound { IsSound parts.old }
     ensures ok { IfOk result (λ reply. record { state = state_from parts.new; reply = reply } ≡ collect (state_from parts.old) client number) }
     ensures err { OnErr result (parts.new ≡ parts.old) }

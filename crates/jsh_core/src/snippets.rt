@@ -6,7 +6,9 @@ ghost use Rattle.jsh_snippet.specs.declared.replies.ReplyBody.TheVariants as bod
 
 use crate::lists::push_reserved;
 use crate::parts::{Parts, add_run, reserve_run};
-use jsh_snippet::{Event, Fate, Kind, LimitKind, Record, Refusal, Reply, ReplyBody, Status, Subkind, Submitted};
+use jsh_snippet::{
+    Event, Fate, Kind, LimitKind, Record, Refusal, Reply, ReplyBody, Status, Subkind, Submitted,
+};
 use jsh_sum::parse_sum;
 use jsh_text::{NoMemory, UText, print_unsigned};
 use jsh_tree::{Code, Diagnostic, Name, Seq, SrcText, Sum, Tree, TypeWritten};
@@ -52,7 +54,12 @@ fn one<T: Drop>(alloc: Global, item: T) -> Result<Seq<T>, NoMemory>
     Ok(Seq::from_vec(items))
 }
 
-fn new_accepted_record(alloc: Global, id: u32, source: &SrcText, sum: Sum) -> Result<Record, NoMemory>
+fn new_accepted_record(
+    alloc: Global,
+    id: u32,
+    source: &SrcText,
+    sum: Sum,
+) -> Result<Record, NoMemory>
     ensures { IfOk result (λ new. new ≡ accepted_record id source.now sum) }
 {
     let name = Name::from_text(alloc, "int")?;
@@ -169,7 +176,13 @@ fn reject(parts: &mut Parts, alloc: Global, source: &SrcText) -> Result<Reply, N
     Ok(answer_of(alloc, ReplyBody::Submitted(reply)))
 }
 
-fn accept(parts: &mut Parts, alloc: Global, client: u32, source: &SrcText, sum: Sum) -> Result<Reply, NoMemory>
+fn accept(
+    parts: &mut Parts,
+    alloc: Global,
+    client: u32,
+    source: &SrcText,
+    sum: Sum,
+) -> Result<Reply, NoMemory>
     requires sound { IsSound parts.old }
     requires room { length parts.old.book.items < 16384 }
     requires few { parts.old.world.alive < 256 }
@@ -192,7 +205,12 @@ fn accept(parts: &mut Parts, alloc: Global, client: u32, source: &SrcText, sum: 
 }
 
 /// A snippet is handed in.
-pub fn submit(parts: &mut Parts, alloc: Global, client: u32, source: &SrcText) -> Result<Reply, NoMemory>
+pub fn submit(
+    parts: &mut Parts,
+    alloc: Global,
+    client: u32,
+    source: &SrcText,
+) -> Result<Reply, NoMemory>
     requires sound { IsSound parts.old }
     ensures ok { IfOk result (λ reply. record { state = state_from parts.new; reply = reply } ≡ submitted (state_from parts.old) client source.now) }
     ensures err { OnErr result (state_from parts.new ≡ state_from parts.old) }

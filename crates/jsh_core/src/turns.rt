@@ -124,7 +124,13 @@ fn step(world: &mut WorldParts, book: &[Record], alloc: Global, number: u32) -> 
 
 /// At most so many visible steps of a thread, or fewer only where it can't go on. The answer is how
 /// many were done.
-pub fn turn(world: &mut WorldParts, book: &[Record], alloc: Global, number: u32, most: u32) -> Result<u32, CutShort>
+pub fn turn(
+    world: &mut WorldParts,
+    book: &[Record],
+    alloc: Global,
+    number: u32,
+    most: u32,
+) -> Result<u32, CutShort>
     requires world { IsWorld world.old (length book.now) }
     requires few { StepsAtMost (2 ^ 62) world.old.threads.items }
     requires most { most ≤ 256 }

@@ -1,5 +1,5 @@
 -- What is left to do, done after what was done, is all that is to be done.
-use Rattle.std.proofs.Common.{◌≡◌, ◌++◌, take, drop, length}
+use Rattle.std.proofs.Common.{◌≡◌, ◌++◌, take, drop}
 use Rattle.jsh_core.specs.Runs.{stopped}
 use Rattle.jsh_core.proofs.clients.stop_threads.Given as goal
 

@@ -7,6 +7,6 @@ use Rattle.jsh_core.proofs.snippets.accept.Goals as goal
 pub returns-clause-steps : goal.returns-clause-steps
 returns-clause-steps c = λ bound h.
     StepsAtMost-push bound _ _ _ _
-        (ap (λ (w : World). w.threads) c.reserve_run.ensures.same)
-        (ap (λ (w : World). w.threads) c.add_run.ensures.after)
-        refl h
+    (ap (λ (w : World). w.threads) c.reserve_run.ensures.same)
+    (ap (λ (w : World). w.threads) c.add_run.ensures.after)
+    refl h

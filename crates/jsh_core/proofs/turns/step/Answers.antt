@@ -1,5 +1,5 @@
 -- The last step of a run returns the text of the value.
-use Rattle.std.proofs.Common.{◌≡◌, ◌==◌, false, rules, arith, ap, sym, subst, ◌∙◌, Option, Some}
+use Rattle.std.proofs.Common.{◌≡◌, ◌==◌, false, rules, ap, sym, subst, ◌∙◌, Option, Some}
 use Rattle.std.specs.Fmt.{signed_decimal}
 use Rattle.std.specs.Option.{IfSome}
 use Rattle.jsh_core.specs.declared.world.Thread.{Thread}
@@ -15,7 +15,7 @@ returns-in_ok-text-clause-ok c =
     let w : World = world_of c.args.world.now in
     let there : Some c.in-Some.thread.now ≡ numbered w.threads c.args.number = c.in-Some.ensures ∙ ap (λ xs. numbered xs c.args.number) c.deref.ensures.value in
     let done = subst (λ (found : Option Thread). IfSome found (λ (t : Thread). world_of c.end_thread.new.world ≡ performed w c.args.number t c.in-Some-frame.frame (Returns c.in_ok-text.text)))
-        (sym there) (c.end_thread.ensures.after c.in-Some-frame.frame) in
+    (sym there) (c.end_thread.ensures.after c.in-Some-frame.frame) in
     let later : (c.in-Some-frame.frame.answers == 0) ≡ false = search rules in
     let text : c.in_ok-text.text ≡ signed_decimal (tree_value c.in-Some-tree_at.body.now) = search rules in
     done ∙ ap (λ text. performed w c.args.number c.in-Some.thread.now c.in-Some-frame.frame (Returns text)) text

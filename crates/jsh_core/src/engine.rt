@@ -1,4 +1,4 @@
-ghost use Rattle.std.specs.Prelude.{◌≡◌, ◌∷◌, ◌++◌, [], length, slice_get, Ok, IfOk, IsOk, OnErr};
+ghost use Rattle.std.specs.Prelude.{◌≡◌, ◌==◌, if◌then◌else◌, ◌∷◌, ◌++◌, [], length, slice_get, Ok, IfOk, IsOk, OnErr};
 ghost use Rattle.std.specs.Option.{option_copied};
 ghost use Rattle.jsh_snippet.specs.declared.acts.Act.TheVariants as act;
 ghost use Rattle.jsh_core.specs.State.{numbered};
@@ -23,6 +23,13 @@ use std::sync::ledger::Ledger;
 
 /// Room that each entry leaves behind it, for the leaves of all clients and the close.
 const LAST_ENTRIES: usize = 67;
+
+/// The steps with which a turn is kept: those that it did, where it did any.
+fn kept_steps(asked: u32, done: u32) -> u32
+    ensures { result ≡ (if done == 0 then asked else done) }
+{
+    if done == 0 { asked } else { done }
+}
 
 /// The one-thread engine. Contracts see it as its history.
 #[derive(Drop)]
@@ -86,7 +93,12 @@ impl Core {
 
     /// Does an entry, and answers it. After want of memory all is as before, but a turn keeps the
     /// steps that it has done. No act ticks yet.
-    pub fn apply<L: Ledger>(&mut self, alloc: Global, entry: Entry, _steps: &mut Steps<L>) -> Result<Reply, NoMemory>
+    pub fn apply<L: Ledger>(
+        &mut self,
+        alloc: Global,
+        entry: Entry,
+        _steps: &mut Steps<L>,
+    ) -> Result<Reply, NoMemory>
         requires { Allows self.old entry }
         ensures reply { IfOk result (λ reply. reply ≡ (step (state_of self.old) entry).reply) }
         ensures history { IfOk result (λ reply. self.new ≡ self.old ++ kept entry reply ∷ []) }
@@ -99,17 +111,21 @@ impl Core {
     {
         let Entry { client, act } = entry;
         match act {
-            Act::Enter => self.enter(alloc, client),
-            Act::Submit { source } => self.submit(alloc, client, source),
-            Act::Turn { thread, steps } => self.turn(alloc, client, thread, steps),
-            Act::Collect { run } => self.collect(alloc, client, run),
-            Act::Leave => Ok(self.leave(alloc, client)),
-            Act::Close => Ok(self.close(alloc, client)),
-            Act::Expire { .. } | Act::Stop { .. } | Act::Drop { .. } | Act::Ask { .. } | Act::Reset => unreachable!(),
+            Act::Enter => self.apply_enter(alloc, client),
+            Act::Submit { source } => self.apply_submit(alloc, client, source),
+            Act::Turn { thread, steps } => self.apply_turn(alloc, client, thread, steps),
+            Act::Collect { run } => self.apply_collect(alloc, client, run),
+            Act::Leave => Ok(self.apply_leave(alloc, client)),
+            Act::Close => Ok(self.apply_close(alloc, client)),
+            Act::Expire { .. }
+            | Act::Stop { .. }
+            | Act::Drop { .. }
+            | Act::Ask { .. }
+            | Act::Reset => unreachable!(),
         }
     }
 
-    fn enter(&mut self, alloc: Global, client: u32) -> Result<Reply, NoMemory>
+    fn apply_enter(&mut self, alloc: Global, client: u32) -> Result<Reply, NoMemory>
         requires { Allows self.old (record { client = client; act = act.Enter }) }
         ensures reply { IfOk result (λ reply. reply ≡ (step (state_of self.old) (record { client = client; act = act.Enter })).reply) }
         ensures history { IfOk result (λ reply. self.new ≡ self.old ++ record { client = client; act = act.Enter } ∷ []) }
@@ -125,7 +141,12 @@ impl Core {
         Ok(reply)
     }
 
-    fn submit(&mut self, alloc: Global, client: u32, source: SrcText) -> Result<Reply, NoMemory>
+    fn apply_submit(
+        &mut self,
+        alloc: Global,
+        client: u32,
+        source: SrcText,
+    ) -> Result<Reply, NoMemory>
         requires { Allows self.old (record { client = client; act = act.Submit source }) }
         ensures reply { IfOk result (λ reply. reply ≡ (step (state_of self.old) (record { client = client; act = act.Submit source })).reply) }
         ensures history { IfOk result (λ reply. self.new ≡ self.old ++ record { client = client; act = act.Submit source } ∷ []) }
@@ -142,35 +163,55 @@ impl Core {
         Ok(reply)
     }
 
-    fn turn(&mut self, alloc: Global, client: u32, thread: u32, steps: u32) -> Result<Reply, NoMemory>
+    fn apply_turn(
+        &mut self,
+        alloc: Global,
+        client: u32,
+        thread: u32,
+        steps: u32,
+    ) -> Result<Reply, NoMemory>
         requires { Allows self.old (record { client = client; act = act.Turn thread steps }) }
         ensures reply { IfOk result (λ reply. reply ≡ (step (state_of self.old) (record { client = client; act = act.Turn thread steps })).reply) }
         ensures history { IfOk result (λ reply. self.new ≡ self.old ++ kept (record { client = client; act = act.Turn thread steps }) reply ∷ []) }
         ensures err { OnErr result (IsCutShort self.old (record { client = client; act = act.Turn thread steps }) self.new) }
     {
         self.history.reserve(LAST_ENTRIES)?;
-        let (done, whole) = match turn(&mut self.parts.world, &self.parts.book, alloc, thread, steps) {
-            Ok(done) => (done, true),
-            Err(cut) => (cut.done, false),
-        };
-        if done == 0 && !whole {
-            return Err(NoMemory);
+        match turn(
+            &mut self.parts.world,
+            &self.parts.book,
+            alloc,
+            thread,
+            steps,
+        ) {
+            Ok(done) => {
+                let entry = Entry {
+                    client,
+                    act: Act::Turn {
+                        thread,
+                        steps: kept_steps(steps, done),
+                    },
+                };
+                push_reserved(&mut self.history, entry);
+                Ok(answer_of(alloc, ReplyBody::Turned { steps: done }))
+            }
+            Err(cut) => {
+                if cut.done == 0 {
+                    return Err(NoMemory);
+                }
+                let entry = Entry {
+                    client,
+                    act: Act::Turn {
+                        thread,
+                        steps: cut.done,
+                    },
+                };
+                push_reserved(&mut self.history, entry);
+                Err(NoMemory)
+            }
         }
-        let entry = Entry {
-            client,
-            act: Act::Turn {
-                thread,
-                steps: if done == 0 { steps } else { done },
-            },
-        };
-        push_reserved(&mut self.history, entry);
-        if !whole {
-            return Err(NoMemory);
-        }
-        Ok(answer_of(alloc, ReplyBody::Turned { steps: done }))
     }
 
-    fn collect(&mut self, alloc: Global, client: u32, run: u32) -> Result<Reply, NoMemory>
+    fn apply_collect(&mut self, alloc: Global, client: u32, run: u32) -> Result<Reply, NoMemory>
         requires { Allows self.old (record { client = client; act = act.Collect run }) }
         ensures reply { IfOk result (λ reply. reply ≡ (step (state_of self.old) (record { client = client; act = act.Collect run })).reply) }
         ensures history { IfOk result (λ reply. self.new ≡ self.old ++ record { client = client; act = act.Collect run } ∷ []) }
@@ -186,7 +227,7 @@ impl Core {
         Ok(reply)
     }
 
-    fn leave(&mut self, alloc: Global, client: u32) -> Reply
+    fn apply_leave(&mut self, alloc: Global, client: u32) -> Reply
         requires { Allows self.old (record { client = client; act = act.Leave }) }
         ensures reply { result ≡ (step (state_of self.old) (record { client = client; act = act.Leave })).reply }
         ensures history { self.new ≡ self.old ++ record { client = client; act = act.Leave } ∷ [] }
@@ -200,7 +241,7 @@ impl Core {
         reply
     }
 
-    fn close(&mut self, alloc: Global, client: u32) -> Reply
+    fn apply_close(&mut self, alloc: Global, client: u32) -> Reply
         requires { Allows self.old (record { client = client; act = act.Close }) }
         ensures reply { result ≡ (step (state_of self.old) (record { client = client; act = act.Close })).reply }
         ensures history { self.new ≡ self.old ++ record { client = client; act = act.Close } ∷ [] }
@@ -276,3 +317,6 @@ impl Core {
         history
     }
 }
+
+#[cfg(test)]
+mod tests;
