@@ -1,0 +1,6 @@
+mod Lists
+mod Histories
+mod Rules
+mod Queue
+mod Seats
+mod Clauses
