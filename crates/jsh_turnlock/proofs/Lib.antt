@@ -4,3 +4,4 @@ mod Rules
 mod Queue
 mod Seats
 mod Clauses
+mod Props

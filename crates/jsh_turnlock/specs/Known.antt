@@ -14,21 +14,27 @@ module _ {T I : Type 0} where
   abbrev pub lock_id : TurnLock T I → TableId
   lock_id lock = lock.table.shared.table_id
 
-  -- the lock whose turn it is
-  abbrev pub lock_of_turn : Held T I → TableId
-  lock_of_turn turn = turn.seat.table_id
+  -- of a turn: its lock, the number of the holder's pass, and the numbers of those that ended in it
+  abbrev pub turn_lock : Held T I → TableId
+  turn_lock held = held.seat.table_id
+
+  abbrev pub turn_number : Held T I → ℕ
+  turn_number held = held.number
+
+  abbrev pub turn_gathered : Held T I → List ℕ
+  turn_gathered held = but_first held.seat.me.0.numbers
 
   -- the history that the holder found
-  abbrev pub history_found : Held T I → List (ℕ × I)
-  history_found turn = turn.seat.me.0.seen
+  abbrev pub turn_found : Held T I → List (ℕ × I)
+  turn_found held = held.seat.me.0.seen
 
-  -- the numbers of the passes that ended in the holder's
-  abbrev pub gathered_at_turn : Held T I → List ℕ
-  gathered_at_turn turn = but_first turn.seat.me.0.numbers
+  -- the count of passes that were made
+  abbrev pub turn_made : Held T I → ℕ
+  turn_made held = held.made
 
   -- the turn with this value
   abbrev pub with_value : Held T I → T → Held T I
-  with_value turn x = record turn { value = x }
+  with_value held x = record held { value = x }
 
 module _ {T I : Type 0} {g : Ghosts T I} where
   -- the lock that made the pass

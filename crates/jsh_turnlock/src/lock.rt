@@ -2,7 +2,7 @@
 ghost use Rattle.std.specs.Prelude.{◌≡◌, ◌≤◌, ◌%◌, ℕ, [], ◌∷◌, ◌++◌, length, Some, None, IfOk};
 ghost use Rattle.jsh_turnlock.specs.History.{own, StartsWith, longer};
 ghost use Rattle.jsh_turnlock.specs.Rule.{Takes};
-ghost use Rattle.jsh_turnlock.specs.Known.{lock_id, lock_of_turn, history_found, gathered_at_turn, lock_of, seen_by, gathered_by, IsSamePass, KeepsGathered};
+ghost use Rattle.jsh_turnlock.specs.Known.{lock_id, turn_lock, turn_number, turn_made, turn_found, turn_gathered, lock_of, seen_by, gathered_by, IsSamePass, KeepsGathered};
 
 use crate::chronicle::Chronicle;
 use crate::handles::{Held, Pass, TurnLock};
@@ -61,12 +61,12 @@ impl<T: Chronicle> TurnLock<T> {
     /// Waits for the turn, and takes the value.
     pub fn take<R: Wait>(&self, rt: &R, pass: Pass<T>) -> Held<'_, T>
         requires { lock_of pass ≡ lock_id self.now }
-        ensures same { (lock_of_turn result ≡ lock_of pass) × (result.number ≡ pass.number) × (gathered_at_turn result ≡ gathered_by pass) }
+        ensures same { (turn_lock result ≡ lock_of pass) × (turn_number result ≡ pass.number) × (turn_gathered result ≡ gathered_by pass) }
         ensures begins { StartsWith (T.history result.value) (seen_by pass) }
         ensures own_entries { own (T.history result.value) pass.number ≡ own (seen_by pass) pass.number }
         ensures gathered { KeepsGathered pass (T.history result.value) }
-        ensures found { history_found result ≡ T.history result.value }
-        ensures numbers { T.numbers result.value ≡ result.made }
+        ensures found { turn_found result ≡ T.history result.value }
+        ensures numbers { T.numbers result.value ≡ turn_made result }
     {
         let Pass { number, mut seat } = pass;
         let shared = &self.table.shared;

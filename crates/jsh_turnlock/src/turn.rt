@@ -3,7 +3,7 @@ ghost use Rattle.std.specs.Prelude.{◌≡◌, ◌+◌, ◌<◌, [], length};
 ghost use mir.Syntax.{named};
 ghost use Rattle.std.specs.Borrow.{Lends, sem};
 ghost use Rattle.jsh_turnlock.specs.History.{IsAddedBy};
-ghost use Rattle.jsh_turnlock.specs.Known.{lock_of_turn, history_found, gathered_at_turn, with_value, lock_of, seen_by, gathered_by};
+ghost use Rattle.jsh_turnlock.specs.Known.{turn_lock, turn_number, turn_made, turn_found, turn_gathered, with_value, lock_of, seen_by, gathered_by};
 ghost use Rattle.jsh_turnlock.specs.contracts.handles.Held.{the_row};
 
 use crate::chronicle::Chronicle;
@@ -25,10 +25,10 @@ impl<T: Chronicle> Held<'_, T> {
     ///
     /// The value has to count the new number before it is given back.
     pub fn split(&mut self) -> Pass<T>
-        requires { self.old.made < 4294967295 }
-        ensures pass { (lock_of result ≡ lock_of_turn self.old) × (result.number ≡ self.old.made) × (seen_by result ≡ history_found self.old) × (gathered_by result ≡ []) }
-        ensures counted { self.new.made ≡ self.old.made + 1 }
-        ensures same { (lock_of_turn self.new ≡ lock_of_turn self.old) × (self.new.number ≡ self.old.number) × (gathered_at_turn self.new ≡ gathered_at_turn self.old) × (history_found self.new ≡ history_found self.old) × (self.new.value ≡ self.old.value) }
+        requires { turn_made self.old < 4294967295 }
+        ensures pass { (lock_of result ≡ turn_lock self.old) × (result.number ≡ turn_made self.old) × (seen_by result ≡ turn_found self.old) × (gathered_by result ≡ []) }
+        ensures counted { turn_made self.new ≡ turn_made self.old + 1 }
+        ensures same { (turn_lock self.new ≡ turn_lock self.old) × (turn_number self.new ≡ turn_number self.old) × (turn_gathered self.new ≡ turn_gathered self.old) × (turn_found self.new ≡ turn_found self.old) × (self.new.value ≡ self.old.value) }
     {
         let number = self.made;
         let seat = self.lock.table.shared.split_seat::<Fork>(&mut self.seat);
@@ -38,9 +38,9 @@ impl<T: Chronicle> Held<'_, T> {
 
     /// Gives the value back, and passes the turn on.
     pub fn give(self) -> Pass<T>
-        requires added { IsAddedBy self.number (history_found self) (T.history self.value) }
-        requires numbers { T.numbers self.value ≡ self.made }
-        ensures same { (lock_of result ≡ lock_of_turn self.entry) × (result.number ≡ self.entry.number) × (gathered_by result ≡ gathered_at_turn self.entry) }
+        requires added { IsAddedBy (turn_number self) (turn_found self) (T.history self.value) }
+        requires numbers { T.numbers self.value ≡ turn_made self }
+        ensures same { (lock_of result ≡ turn_lock self.entry) × (result.number ≡ turn_number self.entry) × (gathered_by result ≡ turn_gathered self.entry) }
         ensures seen { seen_by result ≡ T.history self.entry.value }
     {
         let Held {
