@@ -5,6 +5,8 @@ mod chronicle;
 mod handles;
 mod lock;
 mod rule;
+#[cfg(test)]
+mod tests;
 mod turn;
 mod view;
 
