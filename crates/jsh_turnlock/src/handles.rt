@@ -40,3 +40,8 @@ pub struct Held<'a, T: Chronicle> {
     ghost holds: { seat.me ≡ (holding number made seat.me.0, (0, None) ∷ []) },
     ghost length_found: { found ≡ length seat.me.0.seen },
 }
+
+// A shared pass or turn shows no seat, so that a seat that threads may hand on is enough.
+unsafe impl<T: Chronicle> Sync for Pass<T> {}
+
+unsafe impl<T: Chronicle + Sync> Sync for Held<'_, T> {}

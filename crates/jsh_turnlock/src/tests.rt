@@ -156,3 +156,148 @@ fn add_both<R: Threads + Wait + Sync>(
     );
     Ok((one?, other?))
 }
+
+// Two threads add as often, and the list that is then closed.
+fn two_threads<R: Threads + Wait + Sync>(
+    rt: &R,
+    alloc: Global,
+    times: u64,
+) -> Result<Option<Notes>, NoMemory> {
+    let (lock, pass) = TurnLock::new(alloc, Notes::empty(alloc))?;
+    let Some((one, other)) = split_one(rt, &lock, pass) else {
+        return Ok(None);
+    };
+    let (one, other) = add_both(rt, &lock, one, other, times, (0, 0))?;
+    lock.end(other);
+    Ok(Some(lock.close(rt, one)))
+}
+
+// Four threads that hold the turn for unequal times.
+fn four_threads<R: Threads + Wait + Sync>(
+    rt: &R,
+    alloc: Global,
+    times: u64,
+) -> Result<Option<Notes>, NoMemory> {
+    let (lock, pass) = TurnLock::new(alloc, Notes::empty(alloc))?;
+    let Some((a, b)) = split_one(rt, &lock, pass) else {
+        return Ok(None);
+    };
+    let Some((a, c)) = split_one(rt, &lock, a) else {
+        return Ok(None);
+    };
+    let Some((b, d)) = split_one(rt, &lock, b) else {
+        return Ok(None);
+    };
+    let mut a = match add_four(rt, &lock, (a, b), (c, d), times) {
+        Ok(a) => a,
+        Err(_) => return Err(NoMemory),
+    };
+    lock.peek(&mut a);
+    Ok(Some(lock.close(rt, a)))
+}
+
+// Gathers the other passes into the first.
+fn add_four<R: Threads + Wait + Sync>(
+    rt: &R,
+    lock: &Lock,
+    first: (Pass<Notes>, Pass<Notes>),
+    second: (Pass<Notes>, Pass<Notes>),
+    times: u64,
+) -> Result<Pass<Notes>, AllocError>
+    requires first { (lock_of first.0 ≡ lock_id lock.now) × (lock_of first.1 ≡ lock_id lock.now) }
+    requires second { (lock_of second.0 ≡ lock_id lock.now) × (lock_of second.1 ≡ lock_id lock.now) }
+    ensures { IfOk result (λ p. lock_of p ≡ lock_id lock.now) }
+{
+    let (a, b) = first;
+    let (c, d) = second;
+    let (first, second) = join(
+        rt,
+        move ||
+            requires { (lock_of a ≡ lock_id lock.now) × (lock_of b ≡ lock_id lock.now) }
+            ensures { IfOk result (λ p. (lock_of p.0 ≡ lock_id lock.now) × (lock_of p.1 ≡ lock_id lock.now)) }
+        { add_both(rt, lock, a, b, times, (0, 1)) },
+        move ||
+            requires { (lock_of c ≡ lock_id lock.now) × (lock_of d ≡ lock_id lock.now) }
+            ensures { IfOk result (λ p. (lock_of p.0 ≡ lock_id lock.now) × (lock_of p.1 ≡ lock_id lock.now)) }
+        { add_both(rt, lock, c, d, times, (3, 7)) },
+    );
+    let (mut a, b) = first?;
+    let (c, d) = second?;
+    lock.gather(&mut a, b);
+    lock.gather(&mut a, c);
+    lock.gather(&mut a, d);
+    Ok(a)
+}
+
+fn crosses<X: Send + Sync>(_shared: &X) -> bool {
+    true
+}
+
+// A lock, a pass and a turn may all go to other threads.
+fn all_cross<R: Wait>(rt: &R, lock: &TurnLock<u8>, pass: Pass<u8>) -> bool
+    requires { lock_of pass ≡ lock_id lock.now }
+{
+    crosses(lock) && crosses(&pass) && crosses(&lock.take(rt, pass))
+}
+
+impl Chronicle for u8 {
+    type Item = u8;
+
+    ghost history = { λ byte. [] };
+
+    ghost numbers = { λ byte. 1 };
+
+    fn len(&self) -> u64 {
+        0
+    }
+
+    fn numbers(&self) -> u32 {
+        1
+    }
+}
+
+#[test]
+fn passes_take_turns(rt: HostRuntime) -> Result<(), Fail> {
+    let (lock, first) = TurnLock::new(rt.alloc(), Notes::empty(rt.alloc()))?;
+    let first = add_one(&rt, &lock, first, 10, 0)?;
+    let Some((mut first, second)) = split_one(&rt, &lock, first) else {
+        return Err(Fail::new("no room for a pass"));
+    };
+    assert_eq!(rt; (first.number(), second.number(), lock.peek(&mut first)), (0, 1, 1));
+    let mut second = add_one(&rt, &lock, second, 11, 0)?;
+    assert_eq!(rt; lock.peek(&mut first), 2);
+    meet_both(&lock, &mut first, &mut second);
+    lock.end(second);
+    let notes = lock.close(&rt, first);
+    assert_eq!(rt; notes.entries.as_slice(), [(0, 10), (1, 11)].as_slice());
+    Ok(())
+}
+
+#[test]
+fn threads_add_in_their_order(rt: HostRuntime) -> Result<(), Fail> {
+    let Some(notes) = two_threads(&rt, rt.alloc(), 1000)? else {
+        return Err(Fail::new("no room for a pass"));
+    };
+    assert_eq!(rt; notes.len(), 2000);
+    assert!(rt; notes.has_in_order(0, 1000) && notes.has_in_order(1, 1000));
+    Ok(())
+}
+
+#[test]
+fn every_entry_stands_once(rt: HostRuntime) -> Result<(), Fail> {
+    let Some(notes) = four_threads(&rt, rt.alloc(), 50)? else {
+        return Err(Fail::new("no room for a pass"));
+    };
+    assert_eq!(rt; notes.len(), 200);
+    for number in 0..4 {
+        assert!(rt; notes.has_in_order(number, 50), "the entries of {number}");
+    }
+    Ok(())
+}
+
+#[test]
+fn handles_cross_threads(rt: HostRuntime) -> Result<(), Fail> {
+    let (lock, pass) = TurnLock::new(rt.alloc(), 5u8)?;
+    assert!(rt; all_cross(&rt, &lock, pass));
+    Ok(())
+}
