@@ -1,0 +1,71 @@
+-- Histories: the lists of entries that an engine may have, and what they come to.
+use Rattle.std.specs.Prelude.{◌≡◌, ℕ, ◌+◌, ◌<◌, ◌≤◌, List, [], ◌∷◌, ◌++◌, Option, Some, Bool, true, false, length, slice_get, sum_by, position}
+use Rattle.std.specs.List.{list_any}
+use Rattle.jsh_snippet.specs.declared.acts.Act.{Act}
+use Rattle.jsh_snippet.specs.declared.acts.Act.TheVariants as act
+use Rattle.jsh_snippet.specs.declared.acts.Entry.{Entry}
+use Rattle.jsh_snippet.specs.declared.replies.Reply.{Reply}
+use Rattle.jsh_core.specs.State.{State, opening}
+use Rattle.jsh_core.specs.Step.{step}
+
+-- the state after these entries
+abbrev pub state_after : State → List Entry → State
+state_after s [] = s
+state_after s (entry ∷ entries) = state_after (step s entry).state entries
+
+-- the state of the one-thread engine after a history
+abbrev pub state_of : List Entry → State
+state_of history = state_after opening history
+
+-- the replies to these entries
+abbrev pub replies_after : State → List Entry → List Reply
+replies_after s [] = []
+replies_after s (entry ∷ entries) = (step s entry).reply ∷ replies_after (step s entry).state entries
+
+abbrev pub replies_of : List Entry → List Reply
+replies_of history = replies_after opening history
+
+-- the bytes of source that an act has
+abbrev pub act_bytes : Act → ℕ
+act_bytes (act.Submit source) = length source
+act_bytes _ = 0
+
+abbrev pub source_bytes : List Entry → ℕ
+source_bytes history = sum_by (λ (entry : Entry). act_bytes entry.act) history
+
+abbrev pub is_close : Act → Bool
+is_close act.Close = true
+is_close _ = false
+
+-- the place of the close
+abbrev pub closed_at : List Entry → Option ℕ
+closed_at history = position (λ (entry : Entry). is_close entry.act) history
+
+-- a history has at most so many entries, and behind them leaves and a close
+abbrev pub HasRoom : List Entry → Type 0
+HasRoom history = length history < 4194304
+
+-- the acts that a client may do after a history
+abbrev pub MayDo : List Entry → ℕ → Act → Type 0
+MayDo history client act.Enter = HasRoom history
+MayDo history client (act.Submit source) =
+    HasRoom history × (length source ≤ 256) × (source_bytes history + length source ≤ 67108864)
+MayDo history client (act.Turn thread steps) = HasRoom history × (1 ≤ steps) × (steps ≤ 256)
+MayDo history client (act.Collect run) = HasRoom history
+MayDo history client act.Leave = Unit {0}
+MayDo history client act.Close = client ≡ 0
+MayDo history client _ = ⊥
+
+-- an entry that may come after a history: its client is there, nothing was closed, and the client may do the act
+pub record Allows (history : List Entry) (entry : Entry) : Type 0 where
+  pub present : slice_get (state_of history).clients entry.client ≡ Some true
+  pub «open» : list_any (λ (e : Entry). is_close e.act) history ≡ false
+  pub may : MayDo history entry.client entry.act
+
+-- each entry may come after those before it
+abbrev pub IsLegalAfter : List Entry → List Entry → Type 0
+IsLegalAfter past [] = Unit {0}
+IsLegalAfter past (entry ∷ entries) = Allows past entry × IsLegalAfter (past ++ entry ∷ []) entries
+
+abbrev pub IsLegal : List Entry → Type 0
+IsLegal history = IsLegalAfter [] history

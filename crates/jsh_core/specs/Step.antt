@@ -1,0 +1,56 @@
+-- What an entry does, and what is replied to it.
+use Rattle.std.specs.Prelude.{ℕ, [], ◌==◌, Option, None, Some, if◌then◌else◌}
+use Rattle.jsh_snippet.specs.declared.acts.Act.{Act}
+use Rattle.jsh_snippet.specs.declared.acts.Act.TheVariants as act
+use Rattle.jsh_snippet.specs.declared.acts.Entry.{Entry}
+use Rattle.jsh_snippet.specs.declared.replies.Reply.{Reply}
+use Rattle.jsh_snippet.specs.declared.replies.ReplyBody.{ReplyBody}
+use Rattle.jsh_snippet.specs.declared.replies.ReplyBody.TheVariants as body
+use Rattle.jsh_core.specs.State.{State, Stepped, answer}
+use Rattle.jsh_core.specs.Snippets.{submitted}
+use Rattle.jsh_core.specs.Threads.{turn}
+use Rattle.jsh_core.specs.Runs.{collect}
+use Rattle.jsh_core.specs.Clients.{enter, leave, close}
+
+-- an act that isn't built yet, which stands in no history
+abbrev pub unbuilt : State → Stepped
+unbuilt s = record { state = s; reply = answer (body.Answered []) }
+
+-- what an act of a client does
+abbrev pub act_step : State → ℕ → Act → Stepped
+act_step s client act.Enter = enter s
+act_step s client (act.Submit source) = submitted s client source
+act_step s client (act.Turn thread steps) = turn s thread steps
+act_step s client (act.Collect run) = collect s client run
+act_step s client (act.Expire run steps) = unbuilt s
+act_step s client (act.Stop run) = unbuilt s
+act_step s client (act.Drop target) = unbuilt s
+act_step s client (act.Ask question) = unbuilt s
+act_step s client act.Reset = unbuilt s
+act_step s client act.Leave = leave s client
+act_step s client act.Close = close s
+
+abbrev pub step : State → Entry → Stepped
+step s entry = act_step s entry.client entry.act
+
+-- the steps that a turn has done, where it has done any
+abbrev pub done_steps : ℕ → ReplyBody → ℕ
+done_steps asked (body.Turned steps) = if steps == 0 then asked else steps
+done_steps asked _ = asked
+
+-- an act as the history keeps it: a turn with the steps that it has done
+abbrev pub kept_act : Act → ReplyBody → Act
+kept_act act.Enter reply = act.Enter
+kept_act (act.Submit source) reply = act.Submit source
+kept_act (act.Turn thread steps) reply = act.Turn thread (done_steps steps reply)
+kept_act (act.Collect run) reply = act.Collect run
+kept_act (act.Expire run steps) reply = act.Expire run steps
+kept_act (act.Stop run) reply = act.Stop run
+kept_act (act.Drop target) reply = act.Drop target
+kept_act (act.Ask question) reply = act.Ask question
+kept_act act.Reset reply = act.Reset
+kept_act act.Leave reply = act.Leave
+kept_act act.Close reply = act.Close
+
+abbrev pub kept : Entry → Reply → Entry
+kept entry reply = record entry { act = kept_act entry.act reply.body }

@@ -1,0 +1,146 @@
+ghost use Rattle.std.specs.Prelude.{◌≡◌, ℕ, ◌+◌, ◌-◌, ◌<◌, ◌≤◌, ◌^◌, length, true, IfErr, IfOk, IfSome, IsSome, OnErr, OnOk, Some};
+ghost use Rattle.std.specs.List.{count_by};
+ghost use Rattle.std.specs.Option.{option_copied};
+ghost use Rattle.jsh_sched.specs.ThreadState.{is_alive};
+ghost use Rattle.jsh_core.specs.declared.world.Frame.{Frame};
+ghost use Rattle.jsh_core.specs.declared.world.Thread.{Thread};
+ghost use Rattle.jsh_core.specs.State.{numbered};
+ghost use Rattle.jsh_core.specs.Threads.{can_go_on, performed, stepped, tree_of, tree_value, turned};
+ghost use Rattle.jsh_core.specs.Threads.Next.{Returns, Sets};
+ghost use Rattle.jsh_core.specs.Parts.{world_of, IsWorld, StepsAtMost};
+
+use crate::lists::at_number;
+use crate::parts::WorldParts;
+use crate::world::Frame;
+use jsh_sched::ThreadState;
+use jsh_snippet::Record;
+use jsh_sum::value_of;
+use jsh_text::{NoMemory, UText, Value, print_int};
+use jsh_tree::Tree;
+use std::alloc::Global;
+
+/// Want of memory in a turn. The steps that were done before stand.
+#[derive(Clone, Copy, Debug, PartialEq, Eq)]
+pub struct CutShort {
+    pub done: u32,
+}
+
+/// Whether the thread with this number can go on.
+pub fn is_ready_at(world: &WorldParts, number: u32) -> bool
+    ensures { result ≡ can_go_on (world_of world.now) number }
+{
+    match at_number(&world.states, number) {
+        None => false,
+        Some(state) => state.is_ready(),
+    }
+}
+
+/// The tree of the snippet with this number.
+pub fn tree_at(book: &[Record], id: u32) -> Option<&Tree>
+    ensures { option_copied result ≡ tree_of book.now id }
+{
+    match at_number(book, id) {
+        None => None,
+        Some(found) => found.tree.as_ref(),
+    }
+}
+
+/// The value of a snippet's tree.
+fn value_of_tree(body: &Tree) -> i32
+    ensures { result ≡ tree_value body.now }
+{
+    match body {
+        Tree::Sum(sum) => value_of(sum),
+    }
+}
+
+/// The thread sets its variable.
+fn set_variable(world: &mut WorldParts, number: u32, frame: Frame, value: i32)
+    requires thread { IsSome (numbered world.old.threads.items number) }
+    requires few { IfSome (numbered world.old.threads.items number) (λ (t : Thread). t.steps + 1 < 2 ^ 64) }
+    requires cell { (0 < frame.snippet) }
+    requires cells { frame.snippet ≤ length world.old.cells.items }
+    requires first { frame.answers ≡ 0 }
+    ensures after { IfSome (numbered world.old.threads.items number) (λ (t : Thread). world_of world.new ≡ performed (world_of world.old) number t frame (Sets value)) }
+    ensures world { (records : ℕ) → IsWorld world.old records → IsWorld world.new records }
+    ensures steps { (bound : ℕ) → StepsAtMost bound world.old.threads.items → StepsAtMost (bound + 1) world.new.threads.items }
+{
+    world.cells[frame.snippet as usize - 1] = Some(Value::Int(value));
+    let thread = &mut world.threads[number as usize - 1];
+    thread.steps += 1;
+    thread.frame = Some(Frame {
+        snippet: frame.snippet,
+        answers: frame.answers + 1,
+    });
+}
+
+/// The thread returns a text and is over.
+fn end_thread(world: &mut WorldParts, number: u32, text: UText)
+    requires thread { IsSome (numbered world.old.threads.items number) }
+    requires few { IfSome (numbered world.old.threads.items number) (λ (t : Thread). t.steps + 1 < 2 ^ 64) }
+    requires states { length world.old.states.items ≡ length world.old.threads.items }
+    requires ready { can_go_on (world_of world.old) number ≡ true }
+    requires counted { world.old.alive ≡ count_by is_alive world.old.states.items }
+    ensures after { (frame : Frame) → IfSome (numbered world.old.threads.items number) (λ (t : Thread). world_of world.new ≡ performed (world_of world.old) number t frame (Returns text)) }
+    ensures world { (records : ℕ) → IsWorld world.old records → IsWorld world.new records }
+    ensures steps { (bound : ℕ) → StepsAtMost bound world.old.threads.items → StepsAtMost (bound + 1) world.new.threads.items }
+{
+    world.states[number as usize - 1] = ThreadState::Ended;
+    let thread = &mut world.threads[number as usize - 1];
+    thread.steps += 1;
+    thread.frame = None;
+    thread.returned = Some(text);
+    world.alive -= 1;
+}
+
+/// One visible step of a thread that can go on.
+fn step(world: &mut WorldParts, book: &[Record], alloc: Global, number: u32) -> Result<(), NoMemory>
+    requires world { IsWorld world.old (length book.now) }
+    requires ready { can_go_on (world_of world.old) number ≡ true }
+    requires few { StepsAtMost (2 ^ 63) world.old.threads.items }
+    ensures ok { OnOk result (world_of world.new ≡ stepped book.now (world_of world.old) number) }
+    ensures err { OnErr result (world_of world.new ≡ world_of world.old) }
+    ensures world { IsWorld world.new (length book.now) }
+    ensures steps { (bound : ℕ) → StepsAtMost bound world.old.threads.items → StepsAtMost (bound + 1) world.new.threads.items }
+{
+    let Some(thread) = at_number(&world.threads, number) else {
+        return Ok(());
+    };
+    let Some(frame) = thread.frame else {
+        return Ok(());
+    };
+    let Some(body) = tree_at(book, frame.snippet) else {
+        return Ok(());
+    };
+    let value = value_of_tree(body);
+    if frame.answers == 0 {
+        set_variable(world, number, frame, value);
+    } else {
+        let text = print_int(alloc, value)?;
+        end_thread(world, number, text);
+    }
+    Ok(())
+}
+
+/// At most so many visible steps of a thread, or fewer only where it can't go on. The answer is how
+/// many were done.
+pub fn turn(world: &mut WorldParts, book: &[Record], alloc: Global, number: u32, most: u32) -> Result<u32, CutShort>
+    requires world { IsWorld world.old (length book.now) }
+    requires few { StepsAtMost (2 ^ 62) world.old.threads.items }
+    requires most { most ≤ 256 }
+    ensures ok { IfOk result (λ steps. record { world = world_of world.new; steps = steps } ≡ turned book.now number most (world_of world.old)) }
+    ensures err { IfErr result (λ cut. record { world = world_of world.new; steps = cut.done } ≡ turned book.now number cut.done (world_of world.old)) }
+    ensures short { IfErr result (λ cut. cut.done < most) }
+    ensures world { IsWorld world.new (length book.now) }
+    ensures steps { (bound : ℕ) → StepsAtMost bound world.old.threads.items → StepsAtMost (bound + 256) world.new.threads.items }
+{
+    let mut done = 0;
+    while done < most && is_ready_at(world, number) {
+        match step(world, book, alloc, number) {
+            Ok(()) => (),
+            Err(_) => return Err(CutShort { done }),
+        }
+        done += 1;
+    }
+    Ok(done)
+}

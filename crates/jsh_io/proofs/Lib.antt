@@ -1,0 +1,4 @@
+pub mod Known
+pub mod MemoryFiles
+pub mod NamedValues
+pub mod OtherFiles

@@ -1,0 +1,2 @@
+pub mod ThreadState
+pub mod Pick

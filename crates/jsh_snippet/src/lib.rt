@@ -1,0 +1,18 @@
+//! What a client asks of the engine and what it is answered, as plain data: kinds, statuses and fates
+//! of snippets, their records and events, acts with their entries, and replies.
+//!
+//! A history is a list of entries. These types have no meaning of their own: the engine's definitions
+//! say what an entry does and what is replied.
+#![tactic(auto)]
+
+mod acts;
+mod events;
+mod kinds;
+mod records;
+mod replies;
+
+pub use acts::{Act, Entry, Question, Target};
+pub use events::Event;
+pub use kinds::{Fate, Kind, Status, Subkind};
+pub use records::Record;
+pub use replies::{Collected, LimitKind, Line, Outcome, Refusal, Reply, ReplyBody, Submitted};

@@ -1,0 +1,5 @@
+pub mod Bytes
+pub mod Found
+pub mod Read
+pub mod Refusal
+pub mod Spelled
