@@ -5,3 +5,4 @@ mod Queue
 mod Seats
 mod Clauses
 mod Props
+pub mod Crossing

@@ -147,11 +147,11 @@ fn add_both<R: Threads + Wait + Sync>(
         rt,
         move ||
             requires { lock_of one ≡ lock_id lock.now }
-            ensures { IfOk result (λ p. lock_of p ≡ lock_id lock.now) }
+            ensures { IfOk result (λ p. lock_of p ≡ lock_id lock.entry.now) }
         { add_many(rt, lock, one, times, pauses.0) },
         move ||
             requires { lock_of other ≡ lock_id lock.now }
-            ensures { IfOk result (λ p. lock_of p ≡ lock_id lock.now) }
+            ensures { IfOk result (λ p. lock_of p ≡ lock_id lock.entry.now) }
         { add_many(rt, lock, other, times, pauses.1) },
     );
     Ok((one?, other?))
@@ -214,11 +214,11 @@ fn add_four<R: Threads + Wait + Sync>(
         rt,
         move ||
             requires { (lock_of a ≡ lock_id lock.now) × (lock_of b ≡ lock_id lock.now) }
-            ensures { IfOk result (λ p. (lock_of p.0 ≡ lock_id lock.now) × (lock_of p.1 ≡ lock_id lock.now)) }
+            ensures { IfOk result (λ p. (lock_of p.0 ≡ lock_id lock.entry.now) × (lock_of p.1 ≡ lock_id lock.entry.now)) }
         { add_both(rt, lock, a, b, times, (0, 1)) },
         move ||
             requires { (lock_of c ≡ lock_id lock.now) × (lock_of d ≡ lock_id lock.now) }
-            ensures { IfOk result (λ p. (lock_of p.0 ≡ lock_id lock.now) × (lock_of p.1 ≡ lock_id lock.now)) }
+            ensures { IfOk result (λ p. (lock_of p.0 ≡ lock_id lock.entry.now) × (lock_of p.1 ≡ lock_id lock.entry.now)) }
         { add_both(rt, lock, c, d, times, (3, 7)) },
     );
     let (mut a, b) = first?;
@@ -234,26 +234,11 @@ fn crosses<X: Send + Sync>(_shared: &X) -> bool {
 }
 
 // A lock, a pass and a turn may all go to other threads.
-fn all_cross<R: Wait>(rt: &R, lock: &TurnLock<u8>, pass: Pass<u8>) -> bool
+#[tactic(auto, using(crate::proofs::Crossing::pass_sync, crate::proofs::Crossing::held_sync))]
+fn all_cross<R: Wait>(rt: &R, lock: &Lock, pass: Pass<Notes>) -> bool
     requires { lock_of pass ≡ lock_id lock.now }
 {
     crosses(lock) && crosses(&pass) && crosses(&lock.take(rt, pass))
-}
-
-impl Chronicle for u8 {
-    type Item = u8;
-
-    ghost history = { λ byte. [] };
-
-    ghost numbers = { λ byte. 1 };
-
-    fn len(&self) -> u64 {
-        0
-    }
-
-    fn numbers(&self) -> u32 {
-        1
-    }
 }
 
 #[test]
@@ -297,7 +282,7 @@ fn every_entry_stands_once(rt: HostRuntime) -> Result<(), Fail> {
 
 #[test]
 fn handles_cross_threads(rt: HostRuntime) -> Result<(), Fail> {
-    let (lock, pass) = TurnLock::new(rt.alloc(), 5u8)?;
+    let (lock, pass) = TurnLock::new(rt.alloc(), Notes::empty(rt.alloc()))?;
     assert!(rt; all_cross(&rt, &lock, pass));
     Ok(())
 }
