@@ -1,11 +1,11 @@
 -- What the steps tell, as the calls' clauses say it.
-use Rattle.std.proofs.Common.{◌≡◌, ℕ, ◌+◌, ◌%◌, ◌<◌, ◌≤◌, List, [], ◌∷◌, ◌++◌, length, Option, Some, None, Bool, true, false, eqb, refl, sym, ap, ◌∙◌, subst, arith, eq-eqb}
-use Rattle.std.specs.Prelude.{MatchBool, leb}
+use Rattle.std.proofs.Common.{◌≡◌, ℕ, ◌%◌, List, [], ◌∷◌, Option, Some, None, false, eqb, sym, ap, ◌∙◌, subst, eq-eqb}
+use Rattle.std.specs.Prelude.{MatchBool}
 use Rattle.std.specs.List.{Contains}
 use Rattle.atomic_table.specs.Table.{Me}
 use Rattle.jsh_turnlock.specs.declared.view.View.{View}
 use Rattle.jsh_turnlock.specs.declared.view.Home.{Home}
-use Rattle.jsh_turnlock.specs.History.{own, StartsWith, longer}
+use Rattle.jsh_turnlock.specs.History.{own}
 use Rattle.jsh_turnlock.specs.Rule.{or_zero, but_first, holding, GoesOn}
 use Rattle.jsh_turnlock.proofs.Lists.{contains_later}
 

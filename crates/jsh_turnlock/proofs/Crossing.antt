@@ -1,5 +1,4 @@
 -- A pass and a turn may be shared among threads. A shared seat shows nothing, so it is enough that a seat may go to another thread.
-use mathlib.Core.List.{List}
 use denote.RattleType.{RattleType}
 use denote.Ref.{NamedLft}
 use denote.Param.Send.{IsSend, IsSync, part_keyless, plain_sync, shr_sync, struct_sync, recorded_sync}

@@ -1,5 +1,5 @@
 -- The facts of a turn have one proof each.
-use Rattle.std.proofs.Common.{◌≡◌, ℕ, List, [], ◌∷◌, length, Option, None}
+use Rattle.std.proofs.Common.{◌≡◌, ℕ, [], ◌∷◌, length, Option, None}
 use base.Stored.{Coded}
 use denote.Struct.Props.{props}
 use Rattle.atomic_table.specs.Table.{Me}

@@ -1,19 +1,19 @@
 -- Drawing a ticket, looking for the turn, and passing it on keep the rule.
-use Rattle.std.proofs.Common.{◌≡◌, ◌≢◌, ◌⊎◌, ℕ, zero, suc, ◌+◌, ◌%◌, ◌<◌, ◌≤◌, List, [], ◌∷◌, ◌++◌, length, set, Option, Some, None, Bool, true, false, eqb, refl, sym, ap, ◌∙◌, subst, ⊎_elim, inl, inr, arith}
+use Rattle.std.proofs.Common.{◌≡◌, ◌≢◌, ℕ, ◌+◌, ◌%◌, ◌<◌, List, [], ◌∷◌, length, set, Option, Some, None, Bool, true, false, eqb, refl, sym, ap, ◌∙◌, subst, ⊎_elim, inl, inr, arith}
 use Rattle.std.specs.Prelude.{MatchBool, slice_index}
 use Rattle.std.specs.List.{Contains, sum_by}
 use Rattle.std.proofs.lemmas.Bool.{eqb-true}
 use mathlib.Core.Logic.{dite}
 use mathlib.Core.Option.{some, none, some-injective}
-use native.Mathlib.Decide.{ℕ_discrete, dec_le}
+use native.Mathlib.Decide.{ℕ_discrete}
 use lib.ListN.{get_elem?}
-use Rattle.atomic_table.specs.Table.{State, Me, step, Act, keeps, takes, gives, stepped, Valid, carried_after, rest, Allows}
-use Rattle.atomic_table.proofs.Lists.{at_set, set_else, set_again, one_turn}
+use Rattle.atomic_table.specs.Table.{Me, step, Act, keeps, takes, gives, stepped, Valid, carried_after, rest, Allows}
+use Rattle.atomic_table.proofs.Lists.{one_turn}
 use Rattle.jsh_turnlock.specs.declared.view.View.{View}
 use Rattle.jsh_turnlock.specs.declared.view.Home.{Home}
 use Rattle.jsh_turnlock.specs.History.{own, StartsWith, IsAddedBy}
-use Rattle.jsh_turnlock.specs.Rule.{times, listed, or_zero, GoesOn, Fits, Held, Free, IsHome, IsKeptIn, Kept, Draws, Looks, Takes, Counts, PassesOn}
-use Rattle.jsh_turnlock.proofs.Lists.{sum_set, sum_same, sum_none, each_set, at_set_here, times_here, times_else, contains_here}
+use Rattle.jsh_turnlock.specs.Rule.{times, listed, or_zero, GoesOn, Fits, Held, Free, IsHome, Draws, Looks, Takes, Counts, PassesOn}
+use Rattle.jsh_turnlock.proofs.Lists.{sum_set, sum_same, sum_none, each_set, at_set_here, times_here, times_else}
 use Rattle.jsh_turnlock.proofs.Histories.{starts, starts_through, added_other}
 use Rattle.jsh_turnlock.proofs.Rules.{St, Rule, some_is, one_ticket, one_owner, one_holder, few_wait, slot_stays, reviewed}
 
@@ -45,12 +45,12 @@ module _ {T I : Type 0} (history : T → List (ℕ × I)) (numbers : T → ℕ) 
             let moved : sum_by (f k) (set s.views id w) + f k v ≡ sum_by (f k) s.views + f k w = sum_set (f k) s.views id v w at in
             let before : f k v ≡ 0 = ap (λ o. times k (listed o)) idle in
             dite (ℕ_discrete k r.drawn)
-              (λ e. let now : f k w ≡ 1 + 0 = subst (λ n. times k (n ∷ []) ≡ 1 + 0) e (times_here k []) in
-                  let old : sum_by (f k) s.views ≡ 0 = subst (λ n. sum_by (f n) s.views ≡ 0) (sym e) undrawn in
-                  omega arith)
-              (λ other. let now : f k w ≡ 0 = times_else k r.drawn [] (λ e. other (sym e)) in
-                  let old : sum_by (f k) s.views ≡ 1 = r.tickets k low (omega arith) in
-                  omega arith);
+            (λ e. let now : f k w ≡ 1 + 0 = subst (λ n. times k (n ∷ []) ≡ 1 + 0) e (times_here k []) in
+            let old : sum_by (f k) s.views ≡ 0 = subst (λ n. sum_by (f n) s.views ≡ 0) (sym e) undrawn in
+            omega arith)
+            (λ other. let now : f k w ≡ 0 = times_else k r.drawn [] (λ e. other (sym e)) in
+            let old : sum_by (f k) s.views ≡ 1 = r.tickets k low (omega arith) in
+            omega arith);
         queue =
             let moved : sum_by lists (set s.views id w) + lists v ≡ sum_by lists s.views + lists w = sum_set lists s.views id v w at in
             let before : lists v ≡ 0 = ap (λ o. length (listed o)) idle in
@@ -107,9 +107,9 @@ module _ {T I : Type 0} (history : T → List (ℕ × I)) (numbers : T → ℕ) 
       out : Held s.views → ⊥
       out h = dite (ℕ_discrete h.0 id)
           (λ e. let mine : h.1 ≡ v = some-injective h.1 v (sym h.3 ∙ ap (get_elem? s.views) e ∙ at) in
-              let idle' : h.1.count ≡ None = ap (λ (u : View I). u.count) mine ∙ idle in
-              let held : h.1.count ≡ Some h.2 = h.4 in
-              absurd (cc))
+          let idle' : h.1.count ≡ None = ap (λ (u : View I). u.count) mine ∙ idle in
+          let held : h.1.count ≡ Some h.2 = h.4 in
+          absurd (cc))
           (λ other. one_ticket history numbers s r h.0 id h.1 v r.serving other h.3 at ((r.each h.0 h.1 h.3).holds h.2 h.4).1 served)
 
   -- the ticket that is served is the seat's where the words agree
@@ -163,7 +163,7 @@ module _ {T I : Type 0} (history : T → List (ℕ × I)) (numbers : T → ℕ) 
           → (w : View I) × (a : Act (Option (Home T))) × Valid s.homes m.1 a × Rule history numbers (stepped s 1 found id m.1 w a) × Looks history numbers (step slots 1 0 0 none) m found (w, carried_after m.1 a)
       by_test true is =
           let same : r.serving % 18446744073709551616 ≡ k % 18446744073709551616 =
-              ap (λ ws. slice_index ws 1) (sym r.words) ∙ (eqb-true found (or_zero m.0.ticket % 18446744073709551616) is ∙ ap (λ o. or_zero o % 18446744073709551616) has) in
+          ap (λ ws. slice_index ws 1) (sym r.words) ∙ (eqb-true found (or_zero m.0.ticket % 18446744073709551616) is ∙ ap (λ o. or_zero o % 18446744073709551616) has) in
           let served : m.0.ticket ≡ Some r.serving = has ∙ ap Some (sym (is_served s r id m.0 k at has same)) in
           let h = home_is s r id m.0 at served idle in
           let home : Home T = h.0 in

@@ -1,5 +1,5 @@
 -- What the rule of the lock's table tells, and the steps that change no more than what one seat has seen.
-use Rattle.std.proofs.Common.{◌≡◌, ◌≢◌, ◌⊎◌, ℕ, zero, suc, ◌+◌, ◌%◌, ◌<◌, ◌≤◌, List, [], ◌∷◌, ◌++◌, length, set, Option, Some, None, eqb, refl, sym, ap, ◌∙◌, subst, ⊎_elim, inl, inr, arith}
+use Rattle.std.proofs.Common.{◌≡◌, ◌≢◌, ℕ, ◌+◌, ◌<◌, ◌≤◌, List, [], ◌∷◌, length, set, Option, Some, None, sym, ap, ◌∙◌, ⊎_elim, inl, inr, arith}
 use Rattle.std.specs.List.{Contains, sum_by}
 use mathlib.Core.Logic.{dite}
 use mathlib.Core.Option.{some, none, some-injective}
@@ -7,12 +7,11 @@ use mathlib.Core.Option as maybe
 use native.Mathlib.Decide.{ℕ_discrete}
 use lib.ListN.{get_elem?}
 use Rattle.atomic_table.specs.Table.{State}
-use Rattle.atomic_table.proofs.Lists.{at_set, set_else}
+use Rattle.atomic_table.proofs.Lists.{set_else}
 use Rattle.jsh_turnlock.specs.declared.view.View.{View}
 use Rattle.jsh_turnlock.specs.declared.view.Home.{Home}
-use Rattle.jsh_turnlock.specs.History.{own, StartsWith, longer}
-use Rattle.jsh_turnlock.specs.Rule.{times, listed, or_zero, GoesOn, Fits, Held, Free, IsHome, IsKeptIn, Kept}
-use Rattle.jsh_turnlock.proofs.Lists.{sum_set, sum_two, sum_le, sum_same, each_set, at_set_here, times_here, times_some}
+use Rattle.jsh_turnlock.specs.Rule.{times, listed, or_zero, Fits, Held, Free, IsHome, IsKeptIn, Kept}
+use Rattle.jsh_turnlock.proofs.Lists.{sum_two, sum_le, sum_same, each_set, at_set_here, times_here, times_some}
 
 pub some_is : (a b : ℕ) → Some a ≡ Some b → a ≡ b
 some_is a b e = ap or_zero e
@@ -67,15 +66,15 @@ module _ {T I : Type 0} (history : T → List (ℕ × I)) (numbers : T → ℕ) 
       → get_elem? views id ≡ some v → w.count ≡ v.count → IsKeptIn history numbers made log views homes → IsKeptIn history numbers made log (set views id w) homes
   slot_stays made log views homes id v w at same kept =
       ⊎_elim
-        (λ (h : (home : Home T) × (homes ≡ some (Some home) ∷ []) × IsHome history numbers made log home × Free views).
-          inl (h.0, h.1, h.2, each_set (λ (u : View I). u.count ≡ None) views id w (same ∙ h.3 id v at) (λ j u apart there. h.3 j u there)))
-        (λ (h : (homes ≡ none ∷ []) × Held views). inr (h.0, held h.1))
-        kept
+      (λ (h : (home : Home T) × (homes ≡ some (Some home) ∷ []) × IsHome history numbers made log home × Free views).
+      inl (h.0, h.1, h.2, each_set (λ (u : View I). u.count ≡ None) views id w (same ∙ h.3 id v at) (λ j u apart there. h.3 j u there)))
+      (λ (h : (homes ≡ none ∷ []) × Held views). inr (h.0, held h.1))
+      kept
     where
       held : Held views → Held (set views id w)
       held h = dite (ℕ_discrete h.0 id)
           (λ e. let mine : h.1 ≡ v = some-injective h.1 v (sym h.3 ∙ ap (get_elem? views) e ∙ at) in
-              (id, w, h.2, at_set_here views id v w at, same ∙ (sym (ap (λ (u : View I). u.count) mine) ∙ h.4)))
+          (id, w, h.2, at_set_here views id v w at, same ∙ (sym (ap (λ (u : View I). u.count) mine) ∙ h.4)))
           (λ other. (h.0, h.1, h.2, set_else views id h.0 w other ∙ h.3, h.4))
 
   -- a seat that has seen more, or was told

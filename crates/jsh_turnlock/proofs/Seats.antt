@@ -1,5 +1,5 @@
 -- Reading the length, and cutting and joining seats, keep the rule.
-use Rattle.std.proofs.Common.{◌≡◌, ◌≢◌, ◌⊎◌, ℕ, zero, suc, ◌+◌, ◌%◌, ◌<◌, ◌≤◌, List, [], ◌∷◌, ◌++◌, length, set, Option, Some, None, refl, sym, ap, ◌∙◌, subst, ⊎_elim, inl, inr, arith, length-append}
+use Rattle.std.proofs.Common.{◌≡◌, ◌≢◌, ℕ, zero, suc, ◌+◌, ◌<◌, ◌≤◌, List, [], ◌∷◌, ◌++◌, length, set, Option, Some, None, refl, sym, ap, ◌∙◌, subst, ⊎_elim, inl, inr, arith, length-append}
 use Rattle.std.specs.Prelude.{slice_index}
 use Rattle.std.specs.List.{Contains, sum_by}
 use Rattle.std.proofs.lemmas.List.Sums.{sum_by_push}
@@ -9,15 +9,15 @@ use mathlib.Core.Option.{some, none, some-injective, some-ne-none}
 use mathlib.Core.Option as maybe
 use native.Mathlib.Decide.{ℕ_discrete}
 use lib.ListN.{get_elem?}
-use Rattle.atomic_table.specs.Table.{State, Me, step, Act, keeps, Allows, Splits, Joins, opening}
-use Rattle.atomic_table.proofs.Lists.{at_set, at_snoc, at_longer, set_again}
+use Rattle.atomic_table.specs.Table.{Me, step, keeps, Allows, Splits, Joins, opening}
+use Rattle.atomic_table.proofs.Lists.{at_set, at_snoc, at_longer}
 use Rattle.jsh_turnlock.specs.declared.view.View.{View}
 use Rattle.jsh_turnlock.specs.declared.view.Home.{Home}
 use Rattle.jsh_turnlock.specs.History.{own, StartsWith, longer}
-use Rattle.jsh_turnlock.specs.Rule.{times, listed, or_zero, fresh, GoesOn, Fits, Held, Free, IsHome, IsKeptIn, Kept, Measures, Hears, note, informed, gathered, counted, forked}
-use Rattle.jsh_turnlock.proofs.Lists.{sum_set, sum_same, sum_none, each_set, at_set_here, times_here, times_else, times-append, contains_here, absent}
+use Rattle.jsh_turnlock.specs.Rule.{times, listed, or_zero, fresh, Fits, Held, Free, IsHome, IsKeptIn, Measures, Hears, note, informed, gathered, counted, forked}
+use Rattle.jsh_turnlock.proofs.Lists.{sum_set, sum_same, sum_none, each_set, at_set_here, times_here, times_else, times-append, absent}
 use Rattle.jsh_turnlock.proofs.Histories.{starts, starts_nothing, hears}
-use Rattle.jsh_turnlock.proofs.Rules.{St, Rule, some_is, one_ticket, one_owner, one_holder, slot_stays, reviewed}
+use Rattle.jsh_turnlock.proofs.Rules.{Rule, some_is, one_holder, slot_stays, reviewed}
 
 has_none : (c : ℕ) → Contains [] c → ⊥
 has_none c has = absurd (omega (arith, has.1))
@@ -76,16 +76,16 @@ module _ {T I : Type 0} (history : T → List (ℕ × I)) (numbers : T → ℕ) 
       → IsKeptIn history numbers made log views homes → IsKeptIn history numbers made log (views ++ right ∷ []) homes
   slot_splits made log views homes right idle kept =
       ⊎_elim
-        (λ (h : (home : Home T) × (homes ≡ some (Some home) ∷ []) × IsHome history numbers made log home × Free views).
-          inl (h.0, h.1, h.2, λ j u at. ⊎_elim (λ (old : get_elem? views j ≡ some u). h.3 j u old) (λ (same : right ≡ u). subst (λ (x : View I). x.count ≡ None) same idle) (at_snoc views right u j at)))
-        (λ (h : (homes ≡ none ∷ []) × Held views). let held = h.1 in inr (h.0, (held.0, held.1, held.2, at_longer views (right ∷ []) held.0 held.1 held.3, held.4)))
-        kept
+      (λ (h : (home : Home T) × (homes ≡ some (Some home) ∷ []) × IsHome history numbers made log home × Free views).
+      inl (h.0, h.1, h.2, λ j u at. ⊎_elim (λ (old : get_elem? views j ≡ some u). h.3 j u old) (λ (same : right ≡ u). subst (λ (x : View I). x.count ≡ None) same idle) (at_snoc views right u j at)))
+      (λ (h : (homes ≡ none ∷ []) × Held views). let held = h.1 in inr (h.0, (held.0, held.1, held.2, at_longer views (right ∷ []) held.0 held.1 held.3, held.4)))
+      kept
 
   pub notes : (id : ℕ) (v : View I) → Splits (Rule history numbers) id v v (note v)
   notes id v s r at =
       let fits = r.each id v at in
       let added : (f : View I → ℕ) → f (note v) ≡ 0 → sum_by f (set s.views id v ++ note v ∷ []) ≡ sum_by f s.views =
-          λ f nothing. let same : sum_by f (set s.views id v) ≡ sum_by f s.views = sum_same f s.views id v v at refl in omega (arith, sum_by_push f (set s.views id v) (note v)) in
+      λ f nothing. let same : sum_by f (set s.views id v) ≡ sum_by f s.views = sum_same f s.views id v v at refl in omega (arith, sum_by_push f (set s.views id v) (note v)) in
       record {
         serving = r.serving;
         drawn = r.drawn;
@@ -118,7 +118,7 @@ module _ {T I : Type 0} (history : T → List (ℕ × I)) (numbers : T → ℕ) 
       let next : or_zero v.count ≡ r.made = ap or_zero holds ∙ turn.0 in
       let views' : List (View I) = set s.views id (counted v) ++ forked v ∷ [] in
       let added : (f : View I → ℕ) → f (counted v) ≡ f v → sum_by f views' ≡ sum_by f s.views + f (forked v) =
-          λ f kept. let same : sum_by f (set s.views id (counted v)) ≡ sum_by f s.views = sum_same f s.views id v (counted v) at kept in omega (arith, sum_by_push f (set s.views id (counted v)) (forked v)) in
+      λ f kept. let same : sum_by f (set s.views id (counted v)) ≡ sum_by f s.views = sum_same f s.views id v (counted v) at kept in omega (arith, sum_by_push f (set s.views id (counted v)) (forked v)) in
       record {
         serving = r.serving;
         drawn = r.drawn;
@@ -131,12 +131,12 @@ module _ {T I : Type 0} (history : T → List (ℕ × I)) (numbers : T → ℕ) 
             let f : View I → ℕ = λ x. times c x.numbers in
             let now : sum_by f views' ≡ sum_by f s.views + f (forked v) = added f refl in
             dite (ℕ_discrete c r.made)
-              (λ e. let old : sum_by f s.views ≡ 0 = sum_none f s.views (λ i u there. not_yet r c u (r.each i u there) (omega arith)) in
-                  let one : f (forked v) ≡ 1 + 0 = subst (λ x. times c (x ∷ []) ≡ 1 + 0) (e ∙ sym next) (times_here c []) in
-                  omega arith)
-              (λ other. let old : sum_by f s.views ≡ 1 = r.owners c (omega arith) in
-                  let one : f (forked v) ≡ 0 = times_else c (or_zero v.count) [] (λ e. other (sym e ∙ next)) in
-                  omega arith);
+            (λ e. let old : sum_by f s.views ≡ 0 = sum_none f s.views (λ i u there. not_yet r c u (r.each i u there) (omega arith)) in
+            let one : f (forked v) ≡ 1 + 0 = subst (λ x. times c (x ∷ []) ≡ 1 + 0) (e ∙ sym next) (times_here c []) in
+            omega arith)
+            (λ other. let old : sum_by f s.views ≡ 1 = r.owners c (omega arith) in
+            let one : f (forked v) ≡ 0 = times_else c (or_zero v.count) [] (λ e. other (sym e ∙ next)) in
+            omega arith);
         passes = let now : sum_by (λ (x : View I). length x.numbers) views' ≡ sum_by (λ (x : View I). length x.numbers) s.views + 1 = added (λ x. length x.numbers) refl in let old = r.passes in omega arith;
         few = let few = r.few in omega arith;
         later = λ c late. r.later c (omega arith);
@@ -150,8 +150,11 @@ module _ {T I : Type 0} (history : T → List (ℕ × I)) (numbers : T → ℕ) 
               holds = λ k is. let same : or_zero v.count + 1 ≡ k = some_is (or_zero v.count + 1) k is in (omega arith, turn.1, turn.2);
             }
             record {
-              goes_on = (fits.goes_on.0, λ c has. let is : c ≡ or_zero v.count = only c (or_zero v.count) has in
-                  let late : r.made ≤ c = omega arith in r.later c late ∙ sym (ap (λ h. own h c) turn.2 ∙ r.later c late));
+              goes_on = (
+                fits.goes_on.0,
+                λ c has. let is : c ≡ or_zero v.count = only c (or_zero v.count) has in
+                    let late : r.made ≤ c = omega arith in r.later c late ∙ sym (ap (λ h. own h c) turn.2 ∙ r.later c late),
+              );
               told = starts_nothing r.log;
               numbers = λ c has. let is : c ≡ or_zero v.count = only c (or_zero v.count) has in omega arith;
               ticket = λ k is. absurd (cc);
@@ -169,7 +172,7 @@ module _ {T I : Type 0} (history : T → List (ℕ × I)) (numbers : T → ℕ) 
         slot = ⊎_elim
             (λ (h : (home : Home T) × (s.homes ≡ some (Some home) ∷ []) × IsHome history numbers r.made r.log home × Free s.views). let none_holds = h.3 id v at in absurd (cc))
             (λ (h : (s.homes ≡ none ∷ []) × Held s.views).
-              inr (h.0, (id, counted v, or_zero v.count + 1, at_longer (set s.views id (counted v)) (forked v ∷ []) id (counted v) (at_set_here s.views id v (counted v) at), refl)))
+            inr (h.0, (id, counted v, or_zero v.count + 1, at_longer (set s.views id (counted v)) (forked v ∷ []) id (counted v) (at_set_here s.views id v (counted v) at), refl)))
             r.slot;
       }
     where
@@ -185,28 +188,28 @@ module _ {T I : Type 0} (history : T → List (ℕ × I)) (numbers : T → ℕ) 
   informs id v other w idle nobody waits_not holds_not s r at apart there =
       let fits = r.each id v at in
       let told : StartsWith r.log w.seen = ⊎_elim
-          (λ (t : (other ≡ id) × (informed v w ≡ w)). absurd (apart t.0))
-          (λ (t : (other ≢ id) × (get_elem? s.views other ≡ some w)). (r.each other w t.1).goes_on.0)
-          (at_set s.views id other (informed v w) w there) in
+      (λ (t : (other ≡ id) × (informed v w ≡ w)). absurd (apart t.0))
+      (λ (t : (other ≢ id) × (get_elem? s.views other ≡ some w)). (r.each other w t.1).goes_on.0)
+      (at_set s.views id other (informed v w) w there) in
       let first : Rule history numbers record { words = s.words; homes = s.homes; views = set s.views id (informed v w) } =
-          reviewed history numbers s r id v (informed v w) s.words at refl refl refl refl
-              record {
-                goes_on = fits.goes_on;
-                told = told;
-                numbers = fits.numbers;
-                ticket = fits.ticket;
-                waits = fits.waits;
-                holds = fits.holds;
-              } in
+      reviewed history numbers s r id v (informed v w) s.words at refl refl refl refl
+      record {
+        goes_on = fits.goes_on;
+        told = told;
+        numbers = fits.numbers;
+        ticket = fits.ticket;
+        waits = fits.waits;
+        holds = fits.holds;
+      } in
       reviewed history numbers record { words = s.words; homes = s.homes; views = set s.views id (informed v w) } first other w (fresh []) s.words there refl (sym waits_not) (sym nobody) (sym holds_not)
-          record {
-            goes_on = (starts_nothing first.log, λ c has. absurd (has_none c has));
-            told = starts_nothing first.log;
-            numbers = λ c has. absurd (has_none c has);
-            ticket = λ k is. absurd (cc);
-            waits = omega arith;
-            holds = λ k is. absurd (cc);
-          }
+      record {
+        goes_on = (starts_nothing first.log, λ c has. absurd (has_none c has));
+        told = starts_nothing first.log;
+        numbers = λ c has. absurd (has_none c has);
+        ticket = λ k is. absurd (cc);
+        waits = omega arith;
+        holds = λ k is. absurd (cc);
+      }
 
   pub gathers : (id : ℕ) (v : View I) (other : ℕ) (w : View I) → v.seen ≡ w.seen → w.ticket ≡ None → w.count ≡ None
       → Joins (Rule history numbers) id v other w (gathered v w) (fresh [])
@@ -215,12 +218,12 @@ module _ {T I : Type 0} (history : T → List (ℕ × I)) (numbers : T → ℕ) 
       let e : View I = fresh [] in
       let fits = r.each id v at in
       let old : get_elem? s.views other ≡ some w = ⊎_elim
-          (λ (t : (other ≡ id) × (b ≡ w)). absurd (apart t.0))
-          (λ (t : (other ≢ id) × (get_elem? s.views other ≡ some w)). t.1)
-          (at_set s.views id other b w there) in
+      (λ (t : (other ≡ id) × (b ≡ w)). absurd (apart t.0))
+      (λ (t : (other ≢ id) × (get_elem? s.views other ≡ some w)). t.1)
+      (at_set s.views id other b w there) in
       let theirs = r.each other w old in
       let joined : (f : View I → ℕ) → f b + f e ≡ f v + f w → sum_by f (set (set s.views id b) other e) ≡ sum_by f s.views =
-          λ f same. omega (arith, sum_set f s.views id v b at, sum_set f (set s.views id b) other w e there) in
+      λ f same. omega (arith, sum_set f s.views id v b at, sum_set f (set s.views id b) other w e there) in
       record {
         serving = r.serving;
         drawn = r.drawn;
@@ -243,15 +246,15 @@ module _ {T I : Type 0} (history : T → List (ℕ × I)) (numbers : T → ℕ) 
               holds = λ k is. absurd (cc);
             }
             (λ j u _ at_j. each_set (Fits r.serving r.drawn r.made r.log) s.views id b
-                record {
-                  goes_on = (fits.goes_on.0, λ c has. ⊎_elim (fits.goes_on.1 c) (λ (h : Contains w.numbers c). theirs.goes_on.1 c h ∙ ap (λ x. own x c) (sym alike)) (Contains-append_cases v.numbers w.numbers c has));
-                  told = fits.told;
-                  numbers = λ c has. ⊎_elim (fits.numbers c) (theirs.numbers c) (Contains-append_cases v.numbers w.numbers c has);
-                  ticket = fits.ticket;
-                  waits = let few = fits.waits in omega (arith, length-append v.numbers w.numbers);
-                  holds = fits.holds;
-                }
-                (λ i x _ at_i. r.each i x at_i) j u at_j);
+            record {
+              goes_on = (fits.goes_on.0, λ c has. ⊎_elim (fits.goes_on.1 c) (λ (h : Contains w.numbers c). theirs.goes_on.1 c h ∙ ap (λ x. own x c) (sym alike)) (Contains-append_cases v.numbers w.numbers c has));
+              told = fits.told;
+              numbers = λ c has. ⊎_elim (fits.numbers c) (theirs.numbers c) (Contains-append_cases v.numbers w.numbers c has);
+              ticket = fits.ticket;
+              waits = let few = fits.waits in omega (arith, length-append v.numbers w.numbers);
+              holds = fits.holds;
+            }
+            (λ i x _ at_i. r.each i x at_i) j u at_j);
         slot = slot_stays history numbers r.made r.log (set s.views id b) s.homes other w e there (sym holds_not) (slot_stays history numbers r.made r.log s.views s.homes id v b at refl r.slot);
       }
 

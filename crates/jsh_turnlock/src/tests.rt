@@ -104,11 +104,7 @@ fn add_many<R: Wait>(
 }
 
 // Makes a pass.
-fn split_one<R: Wait>(
-    rt: &R,
-    lock: &Lock,
-    pass: Pass<Notes>,
-) -> Option<(Pass<Notes>, Pass<Notes>)>
+fn split_one<R: Wait>(rt: &R, lock: &Lock, pass: Pass<Notes>) -> Option<(Pass<Notes>, Pass<Notes>)>
     requires { lock_of pass ≡ lock_id lock.now }
     ensures { IfSome result (λ p. (lock_of p.0 ≡ lock_of pass) × (lock_of p.1 ≡ lock_of pass)) }
 {
@@ -229,18 +225,6 @@ fn add_four<R: Threads + Wait + Sync>(
     Ok(a)
 }
 
-fn crosses<X: Send + Sync>(_shared: &X) -> bool {
-    true
-}
-
-// A lock, a pass and a turn may all go to other threads.
-#[tactic(auto, using(crate::proofs::Crossing::pass_sync, crate::proofs::Crossing::held_sync))]
-fn all_cross<R: Wait>(rt: &R, lock: &Lock, pass: Pass<Notes>) -> bool
-    requires { lock_of pass ≡ lock_id lock.now }
-{
-    crosses(lock) && crosses(&pass) && crosses(&lock.take(rt, pass))
-}
-
 #[test]
 fn passes_take_turns(rt: HostRuntime) -> Result<(), Fail> {
     let (lock, first) = TurnLock::new(rt.alloc(), Notes::empty(rt.alloc()))?;
@@ -248,7 +232,10 @@ fn passes_take_turns(rt: HostRuntime) -> Result<(), Fail> {
     let Some((mut first, second)) = split_one(&rt, &lock, first) else {
         return Err(Fail::new("no room for a pass"));
     };
-    assert_eq!(rt; (first.number(), second.number(), lock.peek(&mut first)), (0, 1, 1));
+    assert_eq!(rt;
+        (first.number(), second.number(), lock.peek(&mut first)),
+        (0, 1, 1)
+    );
     let mut second = add_one(&rt, &lock, second, 11, 0)?;
     assert_eq!(rt; lock.peek(&mut first), 2);
     meet_both(&lock, &mut first, &mut second);
@@ -277,12 +264,5 @@ fn every_entry_stands_once(rt: HostRuntime) -> Result<(), Fail> {
     for number in 0..4 {
         assert!(rt; notes.has_in_order(number, 50), "the entries of {number}");
     }
-    Ok(())
-}
-
-#[test]
-fn handles_cross_threads(rt: HostRuntime) -> Result<(), Fail> {
-    let (lock, pass) = TurnLock::new(rt.alloc(), Notes::empty(rt.alloc()))?;
-    assert!(rt; all_cross(&rt, &lock, pass));
     Ok(())
 }

@@ -1,10 +1,9 @@
-use Rattle.std.proofs.Common.{◌≡◌, ℕ, ◌<◌, ◌+◌, ◌-◌, [], ◌∷◌, length, Some, None, refl, sym, ap, ◌∙◌, subst, arith, length-append}
+use Rattle.std.proofs.Common.{◌≡◌, ◌+◌, ◌-◌, [], ◌∷◌, length, Some, refl, sym, ap, ◌∙◌, subst, arith, length-append}
 use Rattle.std.specs.List.{Contains}
 use Rattle.atomic_table.specs.Table.{rest}
-use Rattle.jsh_turnlock.specs.declared.view.View.{View}
 use Rattle.jsh_turnlock.specs.declared.view.Home.{Home}
 use Rattle.jsh_turnlock.specs.History.{IsAddedBy}
-use Rattle.jsh_turnlock.specs.Rule.{resting, holding, but_first}
+use Rattle.jsh_turnlock.specs.Rule.{resting, but_first}
 use Rattle.jsh_turnlock.proofs.Lists.{contains_here}
 use Rattle.jsh_turnlock.proofs.Queue.{counts, passes_on}
 use Rattle.jsh_turnlock.proofs.Clauses.{given_back}
@@ -19,10 +18,10 @@ fetch_add-requires g c =
     let view = ap (λ m. m.0) put.3 in
     let whole = ap length c.requires.added.1 in
     let long : length (g.T.Chronicle.history turn.value) ≡ length c.exchange.new.seat.me.0.seen + (c.len.result - turn.found) =
-        let same : length c.exchange.new.seat.me.0.seen ≡ length turn.seat.me.0.seen = ap (λ v. length v.seen) view in
-        let found = turn.length_found in
-        let len = c.len.ensures in
-        omega (arith, length-append turn.seat.me.0.seen c.requires.added.0) in (
+    let same : length c.exchange.new.seat.me.0.seen ≡ length turn.seat.me.0.seen = ap (λ v. length v.seen) view in
+    let found = turn.length_found in
+    let len = c.len.ensures in
+    omega (arith, length-append turn.seat.me.0.seen c.requires.added.0) in (
       put.0 ∙ turn.placed,
       omega arith,
       counts g.T.Chronicle.history g.T.Chronicle.numbers _ _ _ home turn.made turn.number (c.len.result - turn.found)

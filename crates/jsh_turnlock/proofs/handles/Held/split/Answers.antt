@@ -1,4 +1,4 @@
-use Rattle.std.proofs.Common.{◌≡◌, ℕ, ◌<◌, sym, ap, ◌∙◌, subst, arith}
+use Rattle.std.proofs.Common.{ap, arith}
 use Rattle.jsh_turnlock.proofs.Seats.{forks}
 use Rattle.jsh_turnlock.proofs.handles.Held.split.Goals as goal
 

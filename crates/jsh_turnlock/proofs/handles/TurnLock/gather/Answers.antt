@@ -1,4 +1,4 @@
-use Rattle.std.proofs.Common.{◌≡◌, ℕ, ◌<◌, sym, ap, ◌∙◌, subst, arith}
+use Rattle.std.proofs.Common.{sym, ap, ◌∙◌, arith}
 use Rattle.jsh_turnlock.proofs.Seats.{gathers}
 use Rattle.jsh_turnlock.proofs.handles.TurnLock.gather.Goals as goal
 

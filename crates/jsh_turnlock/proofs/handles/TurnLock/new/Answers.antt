@@ -10,4 +10,4 @@ new-requires g c =
     let home : Home g.row.T.Denot = record { value = c.args.value; made = 1 } in
     let slots : c.push_reserved.new.self.items ≡ Some home ∷ [] = c.push_reserved.ensures.items ∙ ap (λ xs. xs ++ Some home ∷ []) c.in_ok-slots.ensures.items in
     subst (λ xs. Kept g.T.Chronicle.history g.T.Chronicle.numbers (opening (0 ∷ 0 ∷ 0 ∷ []) xs (fresh (0 ∷ [])))) (sym slots)
-        (begins g.T.Chronicle.history g.T.Chronicle.numbers home c.requires.empty c.requires.numbers refl)
+    (begins g.T.Chronicle.history g.T.Chronicle.numbers home c.requires.empty c.requires.numbers refl)

@@ -1,4 +1,4 @@
-use Rattle.std.proofs.Common.{◌≡◌, ℕ, ◌<◌, sym, ap, ◌∙◌, subst, arith}
+use Rattle.std.proofs.Common.{ap, ◌∙◌, arith}
 use Rattle.jsh_turnlock.specs.History.{own}
 use Rattle.jsh_turnlock.proofs.Seats.{measures}
 use Rattle.jsh_turnlock.proofs.Clauses.{goes_gathered}

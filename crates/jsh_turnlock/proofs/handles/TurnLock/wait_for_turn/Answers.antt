@@ -1,4 +1,4 @@
-use Rattle.std.proofs.Common.{◌≡◌, ℕ, ◌%◌, Some, sym, ap, ◌∙◌, subst, arith}
+use Rattle.std.proofs.Common.{ap, ◌∙◌, subst, arith}
 use Rattle.jsh_turnlock.specs.Rule.{Takes}
 use Rattle.jsh_turnlock.proofs.Queue.{looks}
 use Rattle.jsh_turnlock.proofs.Clauses.{looked}
