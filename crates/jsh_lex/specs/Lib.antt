@@ -1,0 +1,5 @@
+pub mod Chars
+pub mod Number
+pub mod Literal
+pub mod Table
+pub mod Lexis

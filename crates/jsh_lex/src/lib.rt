@@ -1,0 +1,10 @@
+//! The lexis: exactly the tokens of a text, or its first fault (JLS 3).
+//!
+//! `specs/Lexis.antt` says what the tokens of a text are.
+#![tactic(auto)]
+
+mod chars;
+mod lexeme;
+mod number;
+
+pub use lexeme::{LexError, LexFault};

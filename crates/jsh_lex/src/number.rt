@@ -1,0 +1,196 @@
+//! Integer literals.
+
+ghost use Rattle.std.specs.Prelude.{◌≡◌, ◌-◌, ◌<◌, ◌≤◌, ◌^◌, length, slice_index, IfSome, IfNone, false};
+ghost use Rattle.std.specs.Char.{digit_value};
+ghost use Rattle.std.specs.List.{list_all};
+ghost use Rattle.std.specs.Option.{SomeIff};
+ghost use Rattle.std.specs.Str.{chars};
+ghost use Rattle.jsh_lex.specs.Number as spec;
+
+use crate::chars::split_first;
+use crate::lexeme::{LexFault, Lexeme};
+use jsh_tree::TokenKind;
+
+fn byte(bytes: &[u8], at: usize) -> u8
+    ensures { result ≡ slice_index bytes.now at }
+{
+    if at < bytes.len() { bytes[at] } else { 0 }
+}
+
+fn last_byte(bytes: &[u8]) -> u8
+    ensures { result ≡ slice_index bytes.now (length bytes.now - 1) }
+{
+    if bytes.is_empty() {
+        0
+    } else {
+        bytes[bytes.len() - 1]
+    }
+}
+
+fn is_float_mark(c: char) -> bool
+    ensures { result ≡ spec.is_float_mark c }
+{
+    matches!(c, '.' | 'e' | 'E' | 'f' | 'F' | 'd' | 'D')
+}
+
+/// Whether the text begins as a floating-point literal.
+pub fn is_float(mut text: &str) -> bool
+    ensures { result ≡ spec.is_float false (chars text.entry.now) }
+{
+    let mut after_digit = false;
+    while let Some((c, rest)) = split_first(text) {
+        if c.is_ascii_digit() {
+            after_digit = true;
+        } else if c == '_' {
+            after_digit = false;
+        } else {
+            return after_digit && is_float_mark(c);
+        }
+        text = rest;
+    }
+    false
+}
+
+fn is_long(number: &[u8]) -> bool
+    ensures { result ≡ spec.is_long number.now }
+{
+    let last = last_byte(number);
+    last == b'l' || last == b'L'
+}
+
+fn without_suffix(number: &[u8]) -> &[u8]
+    ensures { result.now ≡ spec.without_suffix number.now }
+{
+    if is_long(number) {
+        &number[..number.len() - 1]
+    } else {
+        number
+    }
+}
+
+fn radix(number: &[u8]) -> u32
+    ensures value { result ≡ spec.radix number.now }
+    ensures prefix { result ≡ 16 → 2 ≤ length number.now }
+    ensures short_prefix { result ≡ 2 → 2 ≤ length number.now }
+    ensures bounds { (2 ≤ result) × (result ≤ 16) }
+{
+    if byte(number, 0) == b'0' && 1 < number.len() {
+        match number[1] {
+            b'x' => 16,
+            b'b' => 2,
+            _ => 8,
+        }
+    } else {
+        10
+    }
+}
+
+fn digits(number: &[u8]) -> &[u8]
+    ensures { result.now ≡ spec.digits number.now }
+{
+    let base = radix(number);
+    if base == 16 || base == 2 {
+        &number[2..]
+    } else {
+        number
+    }
+}
+
+/// The value of a digit, or 36 for what is none.
+fn digit_value(b: u8) -> u32
+    ensures value { result ≡ digit_value b }
+    ensures bound { result ≤ 36 }
+{
+    match b {
+        b'0'..=b'9' => u32::from(b - b'0'),
+        b'A'..=b'Z' => u32::from(b - b'A') + 10,
+        b'a'..=b'z' => u32::from(b - b'a') + 10,
+        _ => 36,
+    }
+}
+
+fn is_digit(base: u32, b: u8) -> bool
+    ensures { result ≡ spec.is_digit base b }
+{
+    digit_value(b) < base
+}
+
+fn all_digits_or_underscores(base: u32, digits: &[u8]) -> bool
+    ensures { result ≡ list_all (spec.is_digit_or_underscore base) digits.now }
+{
+    digits.iter().all(|b| *b == b'_' || is_digit(base, *b))
+}
+
+fn are_digits(base: u32, digits: &[u8]) -> bool
+    ensures { result ≡ spec.are_digits base digits.now }
+{
+    is_digit(base, byte(digits, 0))
+        && is_digit(base, last_byte(digits))
+        && all_digits_or_underscores(base, digits)
+}
+
+#[tactic(auto, using(crate::proofs::Values::value_behind_grows))]
+/// The number that the digits stand for, where it has 64 bits or fewer.
+fn value_of_digits(base: u32, mut digits: &[u8]) -> Option<u64>
+    requires { (2 ≤ base) × (base ≤ 16) }
+    ensures none { IfNone result (2 ^ 64 ≤ spec.value_behind base 0 digits.entry.now) }
+    ensures some { IfSome result (λ n. n ≡ spec.value_behind base 0 digits.entry.now) }
+{
+    let mut value: u64 = 0;
+    while let [b, more @ ..] = digits {
+        if *b != b'_' {
+            value = value.checked_mul(u64::from(base))?.checked_add(u64::from(digit_value(*b)))?;
+        }
+        digits = more;
+    }
+    Some(value)
+}
+
+fn bound(base: u32, is_long: bool) -> u64
+    ensures { result ≡ spec.bound base is_long }
+{
+    match (base == 10, is_long) {
+        (true, true) => 9_223_372_036_854_775_808,
+        (true, false) => 2_147_483_648,
+        (false, true) => u64::MAX,
+        (false, false) => 0xffff_ffff,
+    }
+}
+
+/// What a number is.
+#[tactic(auto, unfolding(crate::specs::Number::integer))]
+pub fn integer(number: &[u8]) -> Lexeme
+    ensures { result ≡ spec.integer number.now }
+{
+    if !is_integer(number) {
+        return Lexeme::Wrong(LexFault::BadNumber);
+    }
+    if !is_in_range(number) {
+        return Lexeme::Wrong(LexFault::NumberTooBig);
+    }
+    Lexeme::Spelled(if is_long(number) {
+        TokenKind::LongLiteral
+    } else {
+        TokenKind::IntLiteral
+    })
+}
+
+#[tactic(auto, unfolding(crate::specs::Number::is_integer))]
+fn is_integer(number: &[u8]) -> bool
+    ensures { result ≡ spec.is_integer number.now }
+{
+    let front = without_suffix(number);
+    are_digits(radix(front), digits(front))
+}
+
+#[tactic(auto, unfolding(crate::specs::Number::is_in_range, crate::specs::Number::value_of))]
+fn is_in_range(number: &[u8]) -> bool
+    ensures { result ≡ spec.is_in_range number.now }
+{
+    let front = without_suffix(number);
+    let base = radix(front);
+    match value_of_digits(base, digits(front)) {
+        Some(value) => value <= bound(base, is_long(number)),
+        None => false,
+    }
+}
