@@ -130,6 +130,11 @@ abbrev pub operator_in : List (List ℕ × TokenKind) → List ℕ → Lexeme ×
 operator_in [] cs = (Wrong BadChar, [])
 operator_in (entry ∷ entries) cs = if begins entry.0 cs then (Spelled entry.1, drop (length entry.0) cs) else operator_in entries cs
 
+-- the first of the spellings that goes on from a character, or else the character alone
+abbrev pub longest : List (List ℕ × TokenKind) → TokenKind → List ℕ → Lexeme × List ℕ
+longest [] alone rest = (Spelled alone, rest)
+longest (entry ∷ entries) alone rest = if begins entry.0 rest then (Spelled entry.1, drop (length entry.0) rest) else longest entries alone rest
+
 -- the longest operator at the front, since a longer one stands first in the list
 unfoldable pub operator : List ℕ → Lexeme × List ℕ
 operator = operator_in operators

@@ -4,7 +4,12 @@
 #![tactic(auto)]
 
 mod chars;
+mod tokens;
 mod lexeme;
+mod literal;
 mod number;
+mod operator;
+mod word;
 
+pub use tokens::lex;
 pub use lexeme::{LexError, LexFault};

@@ -3,7 +3,7 @@ use denote.Text.{Utf8}
 use denote.Shadow.{shadow}
 use Rattle.std.specs.Str.{chars}
 use Rattle.jsh_lex.specs.Chars.{drop_while, is_identifier_part}
-use Rattle.jsh_lex.proofs.chars.behind_word.Given as goal
+use Rattle.jsh_lex.proofs.chars.behind_parts.Given as goal
 
 abbrev pub invariant-loop-c : goal.invariant-loop-c
 invariant-loop-c l =
