@@ -24,11 +24,11 @@ pub take_drop_while : (p : ℕ → Bool) (cs : List ℕ) → cs ≡ take_while p
 take_drop_while p [] = refl
 take_drop_while p (c ∷ cs) =
     elim (p c) as (λ b. c ∷ cs ≡ cond b (c ∷ take_while p cs) [] ++ cond b (drop_while p cs) (c ∷ cs)) [
-      true ↦ ap (λ xs. c ∷ xs) (take_drop_while p cs)
-    | false ↦ refl
+      | true ↦ ap (λ xs. c ∷ xs) (take_drop_while p cs)
+      | false ↦ refl
     ]
 
-word_split : (cs : List ℕ) → cs ≡ word_chars cs ++ behind_word cs
+pub word_split : (cs : List ℕ) → cs ≡ word_chars cs ++ behind_word cs
 word_split [] = refl
 word_split (c ∷ cs) = ap (λ xs. c ∷ xs) (take_drop_while is_identifier_part cs)
 
@@ -39,23 +39,23 @@ word_taken text after t a e =
     ap (λ xs. take (length xs - length after) xs) parts ∙ before_rest (word_bytes (chars text)) after
 
 -- a text in front of whose rest a literal is closed is the content, the quote and the rest
-quote_split : (q : ℕ) (escaped : Bool) (cs rest : List ℕ) → behind_quote q escaped cs ≡ Some rest → cs ≡ content q escaped cs ++ q ∷ rest
+pub quote_split : (q : ℕ) (escaped : Bool) (cs rest : List ℕ) → behind_quote q escaped cs ≡ Some rest → cs ≡ content q escaped cs ++ q ∷ rest
 quote_split q escaped [] rest e = cc
 quote_split q escaped (c ∷ cs) rest e =
     let inner : (b : Bool) → (not escaped && (c == q)) ≡ b → cond b (Some cs) (behind_quote q (escapes_next escaped c) cs) ≡ Some rest
-            → c ∷ cs ≡ cond b [] (c ∷ content q (escapes_next escaped c) cs) ++ q ∷ rest
-        = λ b. elim b as (λ v. (not escaped && (c == q)) ≡ v → cond v (Some cs) (behind_quote q (escapes_next escaped c) cs) ≡ Some rest
-            → c ∷ cs ≡ cond v [] (c ∷ content q (escapes_next escaped c) cs) ++ q ∷ rest) [
-          true ↦ λ h k. let same : c ≡ q = eqb-true c q (and_parts (not escaped) (c == q) h).1 in cc
-        | false ↦ λ h k. ap (λ xs. c ∷ xs) (quote_split q (escapes_next escaped c) cs rest k)
-        ] in
+    → c ∷ cs ≡ cond b [] (c ∷ content q (escapes_next escaped c) cs) ++ q ∷ rest
+    = λ b. elim b as (λ v. (not escaped && (c == q)) ≡ v → cond v (Some cs) (behind_quote q (escapes_next escaped c) cs) ≡ Some rest
+    → c ∷ cs ≡ cond v [] (c ∷ content q (escapes_next escaped c) cs) ++ q ∷ rest) [
+      | true ↦ λ h k. let same : c ≡ q = eqb-true c q (and_parts (not escaped) (c == q) h).1 in cc
+      | false ↦ λ h k. ap (λ xs. c ∷ xs) (quote_split q (escapes_next escaped c) cs rest k)
+    ] in
     let outer : (b : Bool) → cond b None (cond (not escaped && (c == q)) (Some cs) (behind_quote q (escapes_next escaped c) cs)) ≡ Some rest
-            → c ∷ cs ≡ content q escaped (c ∷ cs) ++ q ∷ rest
-        = λ b. elim b as (λ v. cond v None (cond (not escaped && (c == q)) (Some cs) (behind_quote q (escapes_next escaped c) cs)) ≡ Some rest
-            → c ∷ cs ≡ content q escaped (c ∷ cs) ++ q ∷ rest) [
-          true ↦ λ k. cc
-        | false ↦ λ k. inner (not escaped && (c == q)) refl k
-        ] in
+    → c ∷ cs ≡ content q escaped (c ∷ cs) ++ q ∷ rest
+    = λ b. elim b as (λ v. cond v None (cond (not escaped && (c == q)) (Some cs) (behind_quote q (escapes_next escaped c) cs)) ≡ Some rest
+    → c ∷ cs ≡ content q escaped (c ∷ cs) ++ q ∷ rest) [
+      | true ↦ λ k. cc
+      | false ↦ λ k. inner (not escaped && (c == q)) refl k
+    ] in
     outer (is_line_end c) e
 
 one_ascii : (q : ℕ) → q < 128 → IsAscii (q ∷ [])
@@ -74,10 +74,10 @@ closes q text after ascii t a e =
     let front = encode_utf8_all inside in
     let quote_first : IsUtf8 (q ∷ after) = subst (λ (xs : List ℕ). IsUtf8 (xs ++ after)) (encode_ascii q ascii) (IsUtf8-append _ after (subst (λ (xs : List ℕ). IsUtf8 xs) (sym (encode_ascii q ascii)) (IsUtf8-from_ascii (q ∷ []) (one_ascii q ascii))) a) in
     let tail : encode_utf8_all (q ∷ chars after) ≡ q ∷ after =
-        ap (λ (xs : List ℕ). xs ++ encode_utf8_all (chars after)) (encode_ascii q ascii) ∙ ap (λ (xs : List ℕ). q ∷ xs) (encodes-chars after a) in
+    ap (λ (xs : List ℕ). xs ++ encode_utf8_all (chars after)) (encode_ascii q ascii) ∙ ap (λ (xs : List ℕ). q ∷ xs) (encodes-chars after a) in
     let whole : text ≡ front ++ q ∷ after =
-        sym (encodes-chars text t) ∙ (ap encode_utf8_all (quote_split q false (chars text) (chars after) e)
-        ∙ (encodes-append inside (q ∷ chars after) ∙ ap (λ (xs : List ℕ). front ++ xs) tail)) in
+    sym (encodes-chars text t) ∙ (ap encode_utf8_all (quote_split q false (chars text) (chars after) e)
+    ∙ (encodes-append inside (q ∷ chars after) ∙ ap (λ (xs : List ℕ). front ++ xs) tail)) in
     let size : length text ≡ length front + (length after + 1) = ap length whole ∙ (length-append front (q ∷ after) ∙ (omega arith)) in
     let at : length text - length after - 1 ≡ length front = omega arith in
     let boundary : IsCharBoundary text (length front) = IsCharBoundary-at_seam text front (q ∷ after) whole quote_first in

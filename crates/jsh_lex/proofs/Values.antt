@@ -9,8 +9,8 @@ pub value_behind_grows : (base n : ℕ) (ds : List ℕ) → 1 ≤ base → n ≤
 value_behind_grows base n [] h = omega arith
 value_behind_grows base n (c ∷ cs) h =
     elim (c == 95) as (λ b. n ≤ value_behind base (cond b n (n * base + digit_value c)) cs) [
-      true ↦ value_behind_grows base n cs h
-    | false ↦
-      let more = value_behind_grows base (n * base + digit_value c) cs h in
-      omega (arith, more, mul-le-mul_left n h)
+      | true ↦ value_behind_grows base n cs h
+      | false ↦
+          let more = value_behind_grows base (n * base + digit_value c) cs h in
+          omega (arith, more, mul-le-mul_left n h)
     ]

@@ -1,5 +1,6 @@
 pub mod Chars
-pub mod Number
-pub mod Literal
-pub mod Table
 pub mod Lexis
+pub mod Literal
+pub mod Number
+pub mod Spelling
+pub mod Table

@@ -4,12 +4,15 @@
 #![tactic(auto)]
 
 mod chars;
-mod tokens;
 mod lexeme;
 mod literal;
 mod number;
 mod operator;
+mod tokens;
 mod word;
 
-pub use tokens::lex;
 pub use lexeme::{LexError, LexFault};
+pub use tokens::lex;
+
+#[cfg(test)]
+mod tests;

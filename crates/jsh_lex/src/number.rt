@@ -139,7 +139,9 @@ fn value_of_digits(base: u32, mut digits: &[u8]) -> Option<u64>
     let mut value: u64 = 0;
     while let [b, more @ ..] = digits {
         if *b != b'_' {
-            value = value.checked_mul(u64::from(base))?.checked_add(u64::from(digit_value(*b)))?;
+            value = value
+                .checked_mul(u64::from(base))?
+                .checked_add(u64::from(digit_value(*b)))?;
         }
         digits = more;
     }

@@ -9,9 +9,8 @@ use crate::lexeme::{LexFault, Lexeme};
 use jsh_tree::TokenKind;
 
 // What may go on from a character, the longer ones first.
-const AFTER_EQUAL: [(&[u8], TokenKind); 1] = [
-    (b"=", TokenKind::EqualTo),
-];
+const AFTER_EQUAL: [(&[u8], TokenKind); 1] = [(b"=", TokenKind::EqualTo)];
+
 const AFTER_GREATER: [(&[u8], TokenKind); 5] = [
     (b">>=", TokenKind::UnsignedShiftRightAssign),
     (b">>", TokenKind::UnsignedShiftRight),
@@ -19,42 +18,39 @@ const AFTER_GREATER: [(&[u8], TokenKind); 5] = [
     (b"=", TokenKind::GreaterOrEqual),
     (b">", TokenKind::ShiftRight),
 ];
+
 const AFTER_LESS: [(&[u8], TokenKind); 3] = [
     (b"<=", TokenKind::ShiftLeftAssign),
     (b"=", TokenKind::LessOrEqual),
     (b"<", TokenKind::ShiftLeft),
 ];
-const AFTER_BANG: [(&[u8], TokenKind); 1] = [
-    (b"=", TokenKind::NotEqual),
-];
+
+const AFTER_BANG: [(&[u8], TokenKind); 1] = [(b"=", TokenKind::NotEqual)];
+
 const AFTER_PLUS: [(&[u8], TokenKind); 2] = [
     (b"+", TokenKind::PlusPlus),
     (b"=", TokenKind::PlusAssign),
 ];
+
 const AFTER_MINUS: [(&[u8], TokenKind); 2] = [
     (b"-", TokenKind::MinusMinus),
     (b"=", TokenKind::MinusAssign),
 ];
-const AFTER_STAR: [(&[u8], TokenKind); 1] = [
-    (b"=", TokenKind::StarAssign),
-];
-const AFTER_SLASH: [(&[u8], TokenKind); 1] = [
-    (b"=", TokenKind::SlashAssign),
-];
+
+const AFTER_STAR: [(&[u8], TokenKind); 1] = [(b"=", TokenKind::StarAssign)];
+
+const AFTER_SLASH: [(&[u8], TokenKind); 1] = [(b"=", TokenKind::SlashAssign)];
+
 const AFTER_AMPERSAND: [(&[u8], TokenKind); 2] = [
     (b"&", TokenKind::AndAnd),
     (b"=", TokenKind::AmpersandAssign),
 ];
-const AFTER_BAR: [(&[u8], TokenKind); 2] = [
-    (b"|", TokenKind::OrOr),
-    (b"=", TokenKind::BarAssign),
-];
-const AFTER_CARET: [(&[u8], TokenKind); 1] = [
-    (b"=", TokenKind::CaretAssign),
-];
-const AFTER_PERCENT: [(&[u8], TokenKind); 1] = [
-    (b"=", TokenKind::PercentAssign),
-];
+
+const AFTER_BAR: [(&[u8], TokenKind); 2] = [(b"|", TokenKind::OrOr), (b"=", TokenKind::BarAssign)];
+
+const AFTER_CARET: [(&[u8], TokenKind); 1] = [(b"=", TokenKind::CaretAssign)];
+
+const AFTER_PERCENT: [(&[u8], TokenKind); 1] = [(b"=", TokenKind::PercentAssign)];
 
 /// The first of the spellings that goes on from a character, or else the character alone.
 fn longest<'a>(

@@ -3,6 +3,7 @@ ghost use Rattle.std.specs.Str.{chars};
 ghost use Rattle.std.specs.Char.{is_ascii_digit};
 ghost use Rattle.jsh_lex.specs.Chars.{first_passes};
 ghost use Rattle.jsh_lex.specs.Lexis as spec;
+ghost use Rattle.jsh_lex.specs.Spelling.{AreTokensBehind};
 
 use crate::chars::{
     behind_comment, behind_line, behind_white, is_identifier_start, is_white, no_text, split_first,
@@ -121,6 +122,8 @@ fn front(text: &str) -> (Lexeme, &str)
 /// The tokens of a text, or its first fault.
 pub fn lex(alloc: Global, text: &str) -> Result<Vec<Token>, LexError>
     requires { length text.now < 2 ^ 32 }
+    // Each token of the text spells its kind, and they stand in order, between characters.
+    ensures spelled { AreTokensBehind text.now 0 (spec.tokens text.now).tokens }
     ensures tokens { IfOk result (λ v. spec.tokens text.now ≡ spec.whole v.items) }
     ensures fault { IfErr result (spec.IsFaultOf text.now) }
 {
