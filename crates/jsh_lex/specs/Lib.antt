@@ -4,3 +4,4 @@ pub mod Literal
 pub mod Number
 pub mod Spelling
 pub mod Table
+pub mod Value

@@ -1,6 +1,7 @@
 -- The fixed spellings: reserved words, separators and operators.
 use Rattle.std.specs.Cmp.Lexicographic.{pointwise}
-use Rattle.std.specs.Prelude.{ℕ, nat_eq, if◌then◌else◌, List, [], ◌∷◌, ◌++◌, length, drop, codes}
+use Rattle.std.specs.Prelude.{◌≡◌, ℕ, nat_eq, Bool, true, not, ◌&&◌, refl, if◌then◌else◌, List, [], ◌∷◌, ◌++◌, length, drop, codes}
+use Rattle.std.specs.List.{list_all}
 use Rattle.jsh_tree.specs.declared.token.TokenKind.{TokenKind}
 use Rattle.jsh_tree.specs.declared.token.TokenKind.TheVariants.{Identifier, Abstract, Assert, Boolean, Break, Byte, Case, Catch, Char, Class, Const, Continue, Default, Do, Double, Else, Enum, Extends, Final, Finally, Float, For, Goto, If, Implements, Import, Instanceof, Int, Interface, Long, Native, New, Package, Private, Protected, Public, Return, Short, Static, Strictfp, Super, Switch, Synchronized, This, Throw, Throws, Transient, Try, Void, Volatile, While, True, False, Null, Var, Underscore, UnsignedShiftRightAssign, UnsignedShiftRight, ShiftLeftAssign, ShiftRightAssign, EqualTo, LessOrEqual, GreaterOrEqual, NotEqual, AndAnd, OrOr, PlusPlus, MinusMinus, ShiftLeft, ShiftRight, PlusAssign, MinusAssign, StarAssign, SlashAssign, AmpersandAssign, BarAssign, CaretAssign, PercentAssign, LeftParen, RightParen, LeftBrace, RightBrace, LeftBracket, RightBracket, Semicolon, Comma, Dot, Assign, GreaterThan, LessThan, Bang, Tilde, Question, Colon, Plus, Minus, Star, Slash, Ampersand, Bar, Caret, Percent}
 use Rattle.jsh_lex.specs.Chars.{begins}
@@ -138,3 +139,11 @@ longest (entry ∷ entries) alone rest = if begins entry.0 rest then (Spelled en
 -- the longest operator at the front, since a longer one stands first in the list
 unfoldable pub operator : List ℕ → Lexeme × List ℕ
 operator = operator_in operators
+
+-- no spelling of the list begins a later one
+abbrev pub longer_stand_first : List (List ℕ × TokenKind) → Bool
+longer_stand_first [] = true
+longer_stand_first (entry ∷ entries) = list_all (λ later. not (begins entry.0 later.0)) entries && longer_stand_first entries
+
+pub operators_in_order : longer_stand_first operators ≡ true
+operators_in_order = refl

@@ -12,6 +12,8 @@ mod tokens;
 mod word;
 
 pub use lexeme::{LexError, LexFault};
+pub use literal::char_value;
+pub use number::{int_value, long_value, needs_minus};
 pub use tokens::lex;
 
 #[cfg(test)]

@@ -4,6 +4,7 @@ ghost use Rattle.std.specs.Prelude.{◌≡◌, ◌+◌, ◌-◌, ◌*◌, ◌<�
 ghost use Rattle.std.specs.Option.{SomeIff};
 ghost use Rattle.std.specs.Str.{chars};
 ghost use Rattle.jsh_lex.specs.Literal as spec;
+ghost use Rattle.jsh_lex.specs.Value as value;
 
 use crate::chars::{is_in_line, split_first};
 use crate::lexeme::{LexFault, Lexeme};
@@ -159,4 +160,19 @@ pub fn character(text: &str, after: &str) -> Lexeme
     } else {
         Lexeme::Spelled(TokenKind::CharLiteral)
     }
+}
+
+/// The UTF-16 unit of a character literal, or `None` for any other text.
+pub fn char_value(spelling: &str) -> Option<u16>
+    ensures { result ≡ value.char_value (chars spelling.now) }
+{
+    let (quote, text) = split_first(spelling)?;
+    if quote != '\'' {
+        return None;
+    }
+    let after = behind_quote('\'', text)?;
+    let None = split_first(after) else {
+        return None;
+    };
+    unit_of(content('\'', text, after))
 }

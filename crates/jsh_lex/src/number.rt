@@ -1,11 +1,12 @@
 //! Integer literals.
 
-ghost use Rattle.std.specs.Prelude.{◌≡◌, ◌-◌, ◌<◌, ◌≤◌, ◌^◌, length, slice_index, IfSome, IfNone, false};
+ghost use Rattle.std.specs.Prelude.{◌≡◌, ◌-◌, ◌<◌, ◌≤◌, ◌^◌, length, slice_index, IfSome, IfNone, ◌&&◌, true, false};
 ghost use Rattle.std.specs.Char.{digit_value};
 ghost use Rattle.std.specs.List.{list_all};
 ghost use Rattle.std.specs.Option.{SomeIff};
 ghost use Rattle.std.specs.Str.{chars};
 ghost use Rattle.jsh_lex.specs.Number as spec;
+ghost use Rattle.jsh_lex.specs.Value as value;
 
 use crate::chars::split_first;
 use crate::lexeme::{LexFault, Lexeme};
@@ -129,8 +130,8 @@ fn are_digits(base: u32, digits: &[u8]) -> bool
         && all_digits_or_underscores(base, digits)
 }
 
-#[tactic(auto, using(crate::proofs::Values::value_behind_grows))]
 /// The number that the digits stand for, where it has 64 bits or fewer.
+#[tactic(auto, using(crate::proofs::Values::value_behind_grows))]
 fn value_of_digits(base: u32, mut digits: &[u8]) -> Option<u64>
     requires { (2 ≤ base) × (base ≤ 16) }
     ensures none { IfNone result (2 ^ 64 ≤ spec.value_behind base 0 digits.entry.now) }
@@ -185,14 +186,77 @@ fn is_integer(number: &[u8]) -> bool
     are_digits(radix(front), digits(front))
 }
 
-#[tactic(auto, unfolding(crate::specs::Number::is_in_range, crate::specs::Number::value_of))]
+/// The value of a number, where it has 64 bits or fewer.
+#[tactic(auto, unfolding(crate::specs::Number::value_of))]
+fn value_of(number: &[u8]) -> Option<u64>
+    ensures none { IfNone result (2 ^ 64 ≤ spec.value_of number.now) }
+    ensures some { IfSome result (λ n. n ≡ spec.value_of number.now) }
+{
+    let front = without_suffix(number);
+    value_of_digits(radix(front), digits(front))
+}
+
+#[tactic(auto, unfolding(crate::specs::Number::is_in_range))]
 fn is_in_range(number: &[u8]) -> bool
     ensures { result ≡ spec.is_in_range number.now }
 {
-    let front = without_suffix(number);
-    let base = radix(front);
-    match value_of_digits(base, digits(front)) {
-        Some(value) => value <= bound(base, is_long(number)),
+    match value_of(number) {
+        Some(value) => value <= bound(radix(without_suffix(number)), is_long(number)),
         None => false,
     }
+}
+
+/// The value of an integer literal that fits in so many bits, or `None` for what isn't one.
+#[tactic(auto, unfolding(crate::specs::Number::is_in_range))]
+fn value_in_range(number: &[u8]) -> Option<u64>
+    ensures none { IfNone result ((spec.is_integer number.now && spec.is_in_range number.now) ≡ false) }
+    ensures some { IfSome result (λ n. n ≡ spec.value_of number.now) }
+    ensures is { IfSome result (λ _. (spec.is_integer number.now && spec.is_in_range number.now) ≡ true) }
+    ensures bound { IfSome result (λ n. n ≤ spec.bound (spec.radix (spec.without_suffix number.now)) (spec.is_long number.now)) }
+{
+    if !is_integer(number) {
+        return None;
+    }
+    let value = value_of(number)?;
+    if value <= bound(radix(without_suffix(number)), is_long(number)) {
+        Some(value)
+    } else {
+        None
+    }
+}
+
+/// The value of an int literal, or `None` for any other text. Both `2147483648`, which stands only
+/// behind a minus, and `0x80000000` have the value of the least int.
+pub fn int_value(spelling: &str) -> Option<i32>
+    ensures { result ≡ value.int_value spelling.now }
+{
+    let number = spelling.as_bytes();
+    if is_long(number) {
+        return None;
+    }
+    let value = value_in_range(number)?;
+    Some((value as u32).cast_signed())
+}
+
+/// The value of a long literal, which has its suffix, or `None` for any other text.
+pub fn long_value(spelling: &str) -> Option<i64>
+    ensures { result ≡ value.long_value spelling.now }
+{
+    let number = spelling.as_bytes();
+    if !is_long(number) {
+        return None;
+    }
+    let value = value_in_range(number)?;
+    Some(value.cast_signed())
+}
+
+/// Whether an integer literal is the decimal `2147483648` or `9223372036854775808L`, which stand only
+/// as the operand of a unary minus (JLS 3.10.1).
+pub fn needs_minus(spelling: &str) -> bool
+    ensures { result ≡ value.needs_minus spelling.now }
+{
+    let number = spelling.as_bytes();
+    is_integer(number)
+        && radix(without_suffix(number)) == 10
+        && value_of(number) == Some(bound(10, is_long(number)))
 }
