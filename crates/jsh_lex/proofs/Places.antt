@@ -59,7 +59,7 @@ between bytes xs s rest c =
     let n : (length left + length mid) - length left ≡ length mid = omega arith in
     let dropped : drop (length left) bytes ≡ mid ++ right = ap (drop (length left)) whole ∙ drop-append_seam left (mid ++ right) in
     let taken : take ((length left + length mid) - length left) (drop (length left) bytes) ≡ mid =
-        ap (λ k. take k (drop (length left) bytes)) n ∙ (ap (take (length mid)) dropped ∙ take-append_seam mid right) in
+    ap (λ k. take k (drop (length left) bytes)) n ∙ (ap (take (length mid)) dropped ∙ take-append_seam mid right) in
     ap chars taken ∙ chars-encodes s (left_scalars s rest (right_scalars xs (s ++ rest) (ap scalars (sym c.parts) ∙ scalars-chars bytes c.utf8)))
 
 token_stands : (bytes xs cs s rest : List ℕ) (kind : TokenKind) (end : ℕ) → cs ≡ s ++ rest → Spells kind s → 0 < length s → Cut bytes xs cs → end ≤ width xs
@@ -87,16 +87,17 @@ rest_stands zero bytes xs (d ∷ cs) end c h = tt
 rest_stands (suc n) bytes xs [] end c h = tt
 rest_stands (suc n) bytes xs (d ∷ cs) end c h =
     let go : (l : Lexeme) (rest : List ℕ) → ExplainsAs l (d ∷ cs) rest
-            → AreTokensBehind bytes end (add_lexeme l (place (chars bytes) (d ∷ cs)) (place (chars bytes) rest) (lexed n (chars bytes) rest)).tokens
-        = λ l. elim l as (λ v. (rest : List ℕ) → ExplainsAs v (d ∷ cs) rest
-            → AreTokensBehind bytes end (add_lexeme v (place (chars bytes) (d ∷ cs)) (place (chars bytes) rest) (lexed n (chars bytes) rest)).tokens) [
-          Gap ↦ λ rest x. rest_stands n bytes (xs ++ x.0) rest end (cut_later bytes xs (d ∷ cs) x.0 rest x.1 c) (omega (arith, width-append xs x.0))
-        | Spelled kind ↦ λ rest x.
-            let later = cut_later bytes xs (d ∷ cs) x.s rest x.parts c in
-            (token_stands bytes xs (d ∷ cs) x.s rest kind end x.parts x.spells x.some c h,
-             rest_stands n bytes (xs ++ x.s) rest (place (chars bytes) rest) later (omega (arith, sum_of_widths bytes (xs ++ x.s) rest later)))
-        | Wrong fault ↦ λ rest x. tt
-        ] in
+    → AreTokensBehind bytes end (add_lexeme l (place (chars bytes) (d ∷ cs)) (place (chars bytes) rest) (lexed n (chars bytes) rest)).tokens
+    = λ l. elim l as (λ v. (rest : List ℕ) → ExplainsAs v (d ∷ cs) rest
+    → AreTokensBehind bytes end (add_lexeme v (place (chars bytes) (d ∷ cs)) (place (chars bytes) rest) (lexed n (chars bytes) rest)).tokens) [
+      | Gap ↦ λ rest x. rest_stands n bytes (xs ++ x.0) rest end (cut_later bytes xs (d ∷ cs) x.0 rest x.1 c) (omega (arith, width-append xs x.0))
+      | Spelled kind ↦ λ rest x.
+          let later = cut_later bytes xs (d ∷ cs) x.s rest x.parts c in (
+            token_stands bytes xs (d ∷ cs) x.s rest kind end x.parts x.spells x.some c h,
+            rest_stands n bytes (xs ++ x.s) rest (place (chars bytes) rest) later (omega (arith, sum_of_widths bytes (xs ++ x.s) rest later)),
+          )
+      | Wrong fault ↦ λ rest x. tt
+    ] in
     go (front (d ∷ cs)).0 (front (d ∷ cs)).1 (explained (d ∷ cs)).holds
 
 pub tokens_stand : (bytes : List ℕ) → IsUtf8 bytes → AreTokensBehind bytes 0 (tokens bytes).tokens

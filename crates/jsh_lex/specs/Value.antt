@@ -1,7 +1,8 @@
 -- The values of literals, by their spellings.
-use Rattle.std.specs.Prelude.{ℕ, ℤ, Bool, false, not, ◌&&◌, if◌then◌else◌, ◌==◌, List, [], ◌∷◌, Option, Some, None}
+use Rattle.std.specs.Prelude.{ℕ, zero, suc, ℤ, nat_lt, take, ◌++◌, Bool, false, not, ◌&&◌, if◌then◌else◌, ◌==◌, List, [], ◌∷◌, Option, Some, None}
+use Rattle.std.specs.Char.Escape.{encode_utf16}
 use Rattle.std.specs.Int.{cast_signed, w32, w64}
-use Rattle.jsh_lex.specs.Literal.{behind_quote, content, unit_of}
+use Rattle.jsh_lex.specs.Literal.{behind_quote, content, escape_unit, escapes_hold, is_octal, unit_of}
 use Rattle.jsh_lex.specs.Number.{is_long, without_suffix, radix, bound, value_of, is_integer, is_in_range}
 
 -- The bytes are an integer literal without suffix, or with it
@@ -40,3 +41,34 @@ unit_between (Some inside) = unit_of inside
 -- the UTF-16 unit of a character literal
 abbrev pub char_value : List ℕ → Option ℕ
 char_value cs = unit_between (between 39 cs)
+
+-- how many octal digits begin the text, up to so many
+abbrev pub octal_run : ℕ → List ℕ → ℕ
+octal_run zero cs = 0
+octal_run (suc n) [] = 0
+octal_run (suc n) (c ∷ cs) = if is_octal c then suc (octal_run n cs) else 0
+
+-- How many characters an escape has behind its backslash: one letter, or octal digits as far as they go, up to 377
+abbrev pub escape_len : List ℕ → ℕ
+escape_len [] = 0
+escape_len (c ∷ cs) = if is_octal c then suc (octal_run (if nat_lt c 52 then 2 else 1) cs) else 1
+
+abbrev pub one_unit : Option ℕ → List ℕ
+one_unit None = []
+one_unit (Some u) = u ∷ []
+
+-- the UTF-16 units that a content spells; the number counts the characters that are left of an escape (JLS 3.10.5)
+abbrev pub units_behind : ℕ → List ℕ → List ℕ
+units_behind zero [] = []
+units_behind zero (c ∷ cs) =
+    if c == 92 then one_unit (escape_unit (take (escape_len cs) cs)) ++ units_behind (escape_len cs) cs else encode_utf16 c ++ units_behind zero cs
+units_behind (suc left) [] = []
+units_behind (suc left) (c ∷ cs) = units_behind left cs
+
+abbrev pub units_between : Option (List ℕ) → Option (List ℕ)
+units_between None = None
+units_between (Some inside) = if escapes_hold false inside then Some (units_behind 0 inside) else None
+
+-- the UTF-16 units of a string literal
+abbrev pub string_value : List ℕ → Option (List ℕ)
+string_value cs = units_between (between 34 cs)

@@ -31,7 +31,7 @@ pub fn behind_quote(quote: char, mut text: &str) -> Option<&str>
 }
 
 /// The content of a literal, from the text behind its opening quote and the one behind its closing quote.
-fn content<'a>(quote: char, text: &'a str, after: &str) -> &'a str
+pub fn content<'a>(quote: char, text: &'a str, after: &str) -> &'a str
     requires ascii { quote < 128 }
     requires closed { spec.behind_quote quote false (chars text.now) ≡ Some (chars after.now) }
     ensures { chars result.now ≡ spec.content quote false (chars text.now) }
@@ -40,7 +40,7 @@ fn content<'a>(quote: char, text: &'a str, after: &str) -> &'a str
     content
 }
 
-fn is_octal(c: char) -> bool
+pub fn is_octal(c: char) -> bool
     ensures { result ≡ spec.is_octal c }
 {
     '0' <= c && c <= '7'
@@ -52,7 +52,7 @@ fn begins_escape(c: char) -> bool
     matches!(c, 'b' | 's' | 't' | 'n' | 'f' | 'r' | '"' | '\'' | '\\') || is_octal(c)
 }
 
-fn escapes_hold(mut content: &str) -> bool
+pub fn escapes_hold(mut content: &str) -> bool
     ensures { result ≡ spec.escapes_hold false (chars content.entry.now) }
 {
     let mut escaped = false;
@@ -66,7 +66,7 @@ fn escapes_hold(mut content: &str) -> bool
     !escaped
 }
 
-fn letter_escape(c: char) -> Option<u16>
+pub fn letter_escape(c: char) -> Option<u16>
     ensures { result ≡ spec.letter_escape c }
 {
     match c {
@@ -84,7 +84,7 @@ fn letter_escape(c: char) -> Option<u16>
 }
 
 /// The value of an octal digit.
-fn octal(c: char) -> u16
+pub fn octal(c: char) -> u16
     requires { spec.is_octal c ≡ true }
     ensures value { result ≡ c - 48 }
     ensures bound { result < 8 }
