@@ -1,21 +1,21 @@
 -- What stands at the front of a text is a front of it, and a token there spells its kind.
-use Rattle.std.proofs.Common.{◌≡◌, ℕ, zero, suc, ◌+◌, ◌<◌, ◌==◌, ◌&&◌, Bool, true, false, not, cond, ◌⊎◌, inl, inr, nat_lt, List, [], ◌∷◌, ◌++◌, length, take, drop, Option, Some, None, refl, sym, ap, ◌∙◌, append_assoc, arith}
+use Rattle.std.proofs.Common.{◌≡◌, ℕ, ◌<◌, ◌==◌, ◌&&◌, Bool, true, false, not, cond, inl, inr, nat_lt, List, [], ◌∷◌, ◌++◌, length, take, drop, Option, Some, None, refl, sym, ap, ◌∙◌, append_assoc, arith}
 use Rattle.std.proofs.lemmas.Bool.{eqb-true, and_parts, and_from}
 use Rattle.std.proofs.lemmas.List.{take-append-drop}
 use Rattle.std.proofs.lemmas.Bool.Decides.{nat_tests}
 use Rattle.std.specs.Char.{is_ascii_digit}
 use Rattle.std.specs.List.{list_all}
-use Rattle.std.specs.Prelude.{encode_utf8_all, codes}
+use Rattle.std.specs.Prelude.{codes}
 use Rattle.jsh_tree.specs.declared.token.TokenKind.{TokenKind}
 use Rattle.jsh_lex.specs.declared.lexeme.Lexeme.{Lexeme}
 use Rattle.jsh_lex.specs.declared.lexeme.Lexeme.TheVariants.{Gap, Spelled, Wrong}
-use Rattle.jsh_lex.specs.declared.lexeme.LexFault.TheVariants.{BadChar, FloatNotHere}
-use Rattle.jsh_lex.specs.Chars.{is_white, is_in_line, is_line_end, is_identifier_start, is_identifier_part, take_while, drop_while, begins, first_passes}
+use Rattle.jsh_lex.specs.declared.lexeme.LexFault.TheVariants.{FloatNotHere}
+use Rattle.jsh_lex.specs.Chars.{is_white, is_in_line, is_line_end, is_identifier_start, is_identifier_part, take_while, begins, first_passes}
 use Rattle.jsh_lex.specs.Number.{integer, is_float}
 use Rattle.jsh_lex.specs.Literal.{behind_quote, content, escapes_next, string, character}
-use Rattle.jsh_lex.specs.Table.{operator, operators, operator_in, word_kind}
-use Rattle.jsh_lex.specs.Lexis.{Front, front, word, number, word_chars, word_bytes, behind_word, behind_comment, closed_comment, closed_literal, string_literal, char_literal}
-use Rattle.jsh_lex.specs.Spelling.{Spells, a_word, a_number, a_string, a_character, an_operator, is_word, is_number, is_content, Lists}
+use Rattle.jsh_lex.specs.Table.{operator, operators, operator_in}
+use Rattle.jsh_lex.specs.Lexis.{Front, front, word, number, word_chars, word_bytes, behind_word, behind_comment, closed_comment, closed_literal}
+use Rattle.jsh_lex.specs.Spelling.{Spells, a_word, a_number, a_string, a_character, an_operator, is_content, Lists}
 use Rattle.jsh_lex.proofs.Texts.{take_drop_while, word_split, quote_split}
 
 -- a front of the text, which has characters and spells the kind

@@ -1,18 +1,16 @@
 -- Where the tokens of a text stand.
-use Rattle.std.proofs.Common.{◌≡◌, ℕ, zero, suc, ◌+◌, ◌-◌, ◌<◌, ◌≤◌, ◌&&◌, Bool, true, List, [], ◌∷◌, ◌++◌, length, take, drop, refl, sym, ap, subst, ◌∙◌, append_assoc, append-nil, length-append, arith}
+use Rattle.std.proofs.Common.{◌≡◌, ℕ, zero, suc, ◌+◌, ◌-◌, ◌<◌, ◌≤◌, ◌&&◌, true, List, [], ◌∷◌, ◌++◌, length, take, drop, refl, sym, ap, subst, ◌∙◌, append_assoc, length-append, arith}
 use Rattle.std.proofs.Math.Seq.{take-append_seam, drop-append_seam}
 use Rattle.std.proofs.Math.Utf8.{scalars, scalar}
 use Rattle.std.proofs.lemmas.Bool.{and_parts}
 use Rattle.std.proofs.lemmas.Str.{encodes-chars, encodes-append, chars-encodes, scalars-chars, length-le-encodes, IsCharBoundary-at_seam}
 use Rattle.std.specs.Prelude.{encode_utf8_all, slice_range}
 use Rattle.std.specs.Str.{chars, IsUtf8, IsCharBoundary}
-use Rattle.jsh_tree.specs.declared.token.Span.{Span}
-use Rattle.jsh_tree.specs.declared.token.Token.{Token}
 use Rattle.jsh_tree.specs.declared.token.TokenKind.{TokenKind}
 use Rattle.jsh_lex.specs.declared.lexeme.Lexeme.{Lexeme}
 use Rattle.jsh_lex.specs.declared.lexeme.Lexeme.TheVariants.{Gap, Spelled, Wrong}
 use Rattle.jsh_lex.specs.Chars.{width}
-use Rattle.jsh_lex.specs.Lexis.{Front, Lexed, front, lexed, add_lexeme, place, tokens}
+use Rattle.jsh_lex.specs.Lexis.{front, lexed, add_lexeme, place, tokens}
 use Rattle.jsh_lex.specs.Spelling.{Spells, IsTokenBehind, AreTokensBehind}
 use Rattle.jsh_lex.proofs.Explained.{ExplainsAs, explained}
 

@@ -1,5 +1,5 @@
 -- Values of digits, and units of contents.
-use Rattle.std.proofs.Common.{zero, suc, drop, refl, ◌≡◌, ◌==◌, ℕ, ◌+◌, ◌*◌, ◌≤◌, Bool, true, false, cond, List, [], ◌∷◌, arith}
+use Rattle.std.proofs.Common.{zero, suc, drop, refl, ◌≡◌, ◌==◌, ℕ, ◌+◌, ◌*◌, ◌≤◌, true, false, cond, List, [], ◌∷◌, arith}
 use Rattle.std.proofs.Math.Nat.{mul-le-mul_left}
 use Rattle.std.specs.Char.{digit_value}
 use Rattle.jsh_lex.specs.Number.{value_behind}

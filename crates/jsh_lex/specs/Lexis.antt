@@ -1,10 +1,8 @@
 -- The tokens of a text (JLS 3.5): it is white space, comments and tokens, each the longest that begins at its place.
-use Rattle.std.specs.Prelude.{ℕ, zero, suc, ◌-◌, Bool, false, ◌&&◌, ◌||◌, if◌then◌else◌, ◌==◌, List, [], ◌∷◌, ◌≡◌, length, Option, Some, None, drop, encode_utf8_all, codes}
+use Rattle.std.specs.Prelude.{ℕ, zero, suc, ◌-◌, false, ◌&&◌, if◌then◌else◌, ◌==◌, List, [], ◌∷◌, ◌≡◌, length, Option, Some, None, drop, encode_utf8_all, codes}
 use Rattle.std.specs.Char.{is_ascii_digit}
 use Rattle.std.specs.Str.{chars}
-use Rattle.jsh_tree.specs.declared.token.Span.{Span}
 use Rattle.jsh_tree.specs.declared.token.Token.{Token}
-use Rattle.jsh_tree.specs.declared.token.TokenKind.{TokenKind}
 use Rattle.jsh_lex.specs.declared.lexeme.LexError.{LexError}
 use Rattle.jsh_lex.specs.declared.lexeme.LexError.TheVariants.{NoMemory, Fault}
 use Rattle.jsh_lex.specs.declared.lexeme.LexFault.{LexFault}

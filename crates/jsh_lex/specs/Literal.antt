@@ -1,7 +1,7 @@
 -- Character and string literals (JLS 3.10.4, 3.10.5, 3.10.7). A content is what stands between the quotes.
 use Rattle.std.specs.Prelude.{ℕ, ◌+◌, ◌-◌, ◌*◌, Bool, true, false, not, ◌&&◌, ◌||◌, if◌then◌else◌, ◌==◌, nat_lt, List, [], ◌∷◌, Option, Some, None}
 use Rattle.jsh_tree.specs.declared.token.TokenKind.TheVariants.{CharLiteral, StringLiteral}
-use Rattle.jsh_lex.specs.declared.lexeme.LexFault.TheVariants.{OpenString, BadEscape, BadCharLiteral}
+use Rattle.jsh_lex.specs.declared.lexeme.LexFault.TheVariants.{BadEscape, BadCharLiteral}
 use Rattle.jsh_lex.specs.declared.lexeme.Lexeme.{Lexeme}
 use Rattle.jsh_lex.specs.declared.lexeme.Lexeme.TheVariants.{Spelled, Wrong}
 use Rattle.jsh_lex.specs.Chars.{is_line_end}

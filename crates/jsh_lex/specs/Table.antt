@@ -1,6 +1,6 @@
 -- The fixed spellings: reserved words, separators and operators.
 use Rattle.std.specs.Cmp.Lexicographic.{pointwise}
-use Rattle.std.specs.Prelude.{◌≡◌, ℕ, nat_eq, Bool, true, not, ◌&&◌, refl, if◌then◌else◌, List, [], ◌∷◌, ◌++◌, length, drop, codes}
+use Rattle.std.specs.Prelude.{◌≡◌, ℕ, nat_eq, Bool, true, not, ◌&&◌, refl, if◌then◌else◌, List, [], ◌∷◌, length, drop, codes}
 use Rattle.std.specs.List.{list_all}
 use Rattle.jsh_tree.specs.declared.token.TokenKind.{TokenKind}
 use Rattle.jsh_tree.specs.declared.token.TokenKind.TheVariants.{Identifier, Abstract, Assert, Boolean, Break, Byte, Case, Catch, Char, Class, Const, Continue, Default, Do, Double, Else, Enum, Extends, Final, Finally, Float, For, Goto, If, Implements, Import, Instanceof, Int, Interface, Long, Native, New, Package, Private, Protected, Public, Return, Short, Static, Strictfp, Super, Switch, Synchronized, This, Throw, Throws, Transient, Try, Void, Volatile, While, True, False, Null, Var, Underscore, UnsignedShiftRightAssign, UnsignedShiftRight, ShiftLeftAssign, ShiftRightAssign, EqualTo, LessOrEqual, GreaterOrEqual, NotEqual, AndAnd, OrOr, PlusPlus, MinusMinus, ShiftLeft, ShiftRight, PlusAssign, MinusAssign, StarAssign, SlashAssign, AmpersandAssign, BarAssign, CaretAssign, PercentAssign, LeftParen, RightParen, LeftBrace, RightBrace, LeftBracket, RightBracket, Semicolon, Comma, Dot, Assign, GreaterThan, LessThan, Bang, Tilde, Question, Colon, Plus, Minus, Star, Slash, Ampersand, Bar, Caret, Percent}
