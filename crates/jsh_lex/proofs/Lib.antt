@@ -1,0 +1,5 @@
+pub mod Explained
+pub mod Lexemes
+pub mod Places
+pub mod Texts
+pub mod Values

@@ -1,0 +1,13 @@
+use Rattle.std.proofs.Common.{◌≡◌, ◌≤◌, length}
+use denote.Text.{Utf8}
+use denote.Shadow.{shadow}
+use Rattle.std.specs.Str.{chars}
+use Rattle.jsh_lex.specs.Chars.{drop_while, is_identifier_part}
+use Rattle.jsh_lex.proofs.chars.behind_parts.Given as goal
+
+abbrev pub invariant-loop-c : goal.invariant-loop-c
+invariant-loop-c l =
+    shadow (Utf8 l.text) × (drop_while is_identifier_part (chars l.text) ≡ drop_while is_identifier_part (chars l.initial.text)) × (length l.text ≤ length l.initial.text)
+
+abbrev pub decreases-loop-c : goal.decreases-loop-c
+decreases-loop-c l = length l.text
