@@ -80,38 +80,47 @@ thread_behind client body = record { owner = client; steps = 2; frame = None; re
 -- the world after each of the two steps
 abbrev world_between : World → ℕ → ℕ → ℕ → Tree → World
 world_between w client main snippet body = record w {
-    cells = set w.cells (snippet - 1) (Some (value.Int (tree_value body)));
-    threads = set w.threads (main - 1) (thread_between client snippet) }
+  cells = set w.cells (snippet - 1) (Some (value.Int (tree_value body)));
+  threads = set w.threads (main - 1) (thread_between client snippet);
+}
 
 abbrev world_behind : World → ℕ → ℕ → ℕ → Tree → World
 world_behind w client main snippet body = record w {
-    cells = set w.cells (snippet - 1) (Some (value.Int (tree_value body)));
-    states = set w.states (main - 1) thread_state.Ended;
-    threads = set (set w.threads (main - 1) (thread_between client snippet)) (main - 1) (thread_behind client body) }
+  cells = set w.cells (snippet - 1) (Some (value.Int (tree_value body)));
+  states = set w.states (main - 1) thread_state.Ended;
+  threads = set (set w.threads (main - 1) (thread_between client snippet)) (main - 1) (thread_behind client body);
+}
 
 pub evaluated : (s : State) (client run : ℕ) (f : IsFresh s client run) → IsEvaluated s client f.main f.body
 evaluated s client run f = record {
-    after = world_behind s.world client f.main f.snippet f.body;
-    turn = turned-suc s.book f.main 255 s.world ready
-        ∙ ap (further 1) (ap (turned s.book f.main 255) one ∙ turned-suc s.book f.main 254 between ready
-        ∙ ap (further 1) (ap (turned s.book f.main 254) two ∙ turned-stuck s.book f.main 254 behind over));
-    runs = refl;
-    count = simp length-set;
-    thread = numbered-set (set s.world.threads (f.main - 1) (thread_between client f.snippet)) f.main (thread_between client f.snippet) (thread_behind client f.body) there;
-    stuck = over }
+  after = world_behind s.world client f.main f.snippet f.body;
+  turn = turned-suc s.book f.main 255 s.world ready
+      ∙ ap (further 1) (ap (turned s.book f.main 255) one ∙ turned-suc s.book f.main 254 between ready
+      ∙ ap (further 1) (ap (turned s.book f.main 254) two ∙ turned-stuck s.book f.main 254 behind over));
+  runs = refl;
+  count = simp length-set;
+  thread = numbered-set (set s.world.threads (f.main - 1) (thread_between client f.snippet)) f.main (thread_between client f.snippet) (thread_behind client f.body) there;
+  stuck = over;
+}
   where
     between : World
     between = world_between s.world client f.main f.snippet f.body
+
     behind : World
     behind = world_behind s.world client f.main f.snippet f.body
+
     there : numbered (set s.world.threads (f.main - 1) (thread_between client f.snippet)) f.main ≡ Some (thread_between client f.snippet)
     there = numbered-set s.world.threads f.main _ (thread_between client f.snippet) f.thread_is
+
     ready : can_go_on s.world f.main ≡ true
     ready = rw f.state_is refl
+
     over : option_map_or is_ready (numbered (set s.world.states (f.main - 1) thread_state.Ended) f.main) false ≡ false
     over = rw (numbered-set s.world.states f.main thread_state.Ready thread_state.Ended f.state_is) refl
+
     one : stepped s.book s.world f.main ≡ world_between s.world client f.main f.snippet f.body
     one = stepped-sets s.book s.world f.main _ (record { snippet = f.snippet; answers = 0 }) f.body f.thread_is refl f.tree_is refl
+
     two : stepped s.book (world_between s.world client f.main f.snippet f.body) f.main ≡ world_behind s.world client f.main f.snippet f.body
     two = stepped-returns s.book (world_between s.world client f.main f.snippet f.body) f.main (thread_between client f.snippet) (record { snippet = f.snippet; answers = 1 }) f.body (sym there) refl (sym f.tree_is) refl
 
@@ -119,14 +128,15 @@ evaluated s client run f = record {
 pub accepted-fresh : (s : State) (client : ℕ) (source : List ℕ) (sum : Sum) → length s.world.states ≡ length s.world.threads →
     IsFresh (accepted s client source sum).state client (length s.world.runs + 1)
 accepted-fresh s client source sum fits = record {
-    main = length s.world.threads + 1;
-    snippet = length s.book + 1;
-    body = tree.Sum sum;
-    newest = sym (length-append s.world.threads _);
-    run_is = numbered-push s.world.runs _ _ refl;
-    thread_is = numbered-push s.world.threads _ _ refl;
-    state_is = numbered-push s.world.states _ _ (ap (λ n. n + 1) (sym fits));
-    tree_is = rw (numbered-push s.book (length s.book + 1) (accepted_record (length s.book + 1) source sum) refl) refl }
+  main = length s.world.threads + 1;
+  snippet = length s.book + 1;
+  body = tree.Sum sum;
+  newest = sym (length-append s.world.threads _);
+  run_is = numbered-push s.world.runs _ _ refl;
+  thread_is = numbered-push s.world.threads _ _ refl;
+  state_is = numbered-push s.world.states _ _ (ap (λ n. n + 1) (sym fits));
+  tree_is = rw (numbered-push s.book (length s.book + 1) (accepted_record (length s.book + 1) source sum) refl) refl;
+}
 
 -- what is known of the reply to a snippet and of the state after it
 pub record IsAnswered (s : State) (client : ℕ) (after : Stepped) : Type 0 where
@@ -144,12 +154,13 @@ rejected-answered s client source fits = record { fresh = λ run e. cc; clients 
 
 accepted-answered : (s : State) (client : ℕ) (source : List ℕ) (sum : Sum) → length s.world.states ≡ length s.world.threads → IsAnswered s client (accepted s client source sum)
 accepted-answered s client source sum fits = record {
-    fresh = λ run e. let same : length s.world.runs + 1 ≡ run = cc in
-        subst (λ (n : ℕ). IsFresh (accepted s client source sum).state client n) same (accepted-fresh s client source sum fits);
-    clients = refl;
-    states = simp length-append (ap (λ n. n + 1) fits);
-    grows = simp length-append (omega arith);
-    newer = λ run e. simp length-append (omega arith) }
+  fresh = λ run e. let same : length s.world.runs + 1 ≡ run = cc in
+      subst (λ (n : ℕ). IsFresh (accepted s client source sum).state client n) same (accepted-fresh s client source sum fits);
+  clients = refl;
+  states = simp length-append (ap (λ n. n + 1) fits);
+  grows = simp length-append (omega arith);
+  newer = λ run e. simp length-append (omega arith);
+}
 
 judged-answered : (s : State) (client : ℕ) (source : List ℕ) (found : Option Sum) → length s.world.states ≡ length s.world.threads → IsAnswered s client (judged s client source found)
 judged-answered s client source None fits = rejected-answered s client source fits

@@ -53,7 +53,7 @@ ends_at states i s place ready =
     let within : i < length states = slice_get_within states i s place in
     let same : get_or states i s ≡ s = get_or_from_slice_get states i s s place in
     let moved : sum_by (λ (x : ThreadState). cond (is_alive x) 1 0) (set states i thread_state.Ended) + cond (is_alive (get_or states i s)) 1 0 ≡ sum_by (λ (x : ThreadState). cond (is_alive x) 1 0) states + 0
-        = sum_by-set (λ (x : ThreadState). cond (is_alive x) 1 0) states i thread_state.Ended s within in
+    = sum_by-set (λ (x : ThreadState). cond (is_alive x) 1 0) states i thread_state.Ended s within in
     let one : ◌≡◌ {A = ℕ} (cond (is_alive (get_or states i s)) 1 0) 1 = rw (same, ready_weighs s ready) refl in
     omega (arith, moved, one)
 

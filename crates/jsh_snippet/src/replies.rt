@@ -15,12 +15,18 @@ pub struct Reply {
 #[derive(Clone, Debug, PartialEq, Eq, Drop)]
 pub enum ReplyBody {
     /// The number of the new client.
-    Entered { number: u32 },
+    Entered {
+        number: u32,
+    },
     Submitted(Submitted),
     /// The steps that were done.
-    Turned { steps: u32 },
+    Turned {
+        steps: u32,
+    },
     Collected(Collected),
-    StopDone { run: u32 },
+    StopDone {
+        run: u32,
+    },
     Dropped {
         id: u32,
         kind: Kind,
@@ -29,7 +35,9 @@ pub enum ReplyBody {
     },
     Answered(Seq<Line>),
     /// How many records were emptied.
-    ResetDone { records: u32 },
+    ResetDone {
+        records: u32,
+    },
     Left,
     Closed,
     Refused(Refusal),
@@ -67,7 +75,9 @@ pub struct Line {
 #[derive(Clone, Debug, PartialEq, Eq, Drop)]
 pub enum Collected {
     /// The steps of its main thread so far.
-    Running { steps: u64 },
+    Running {
+        steps: u64,
+    },
     /// The run is over and can't be asked for again. Id and name are those of its snippet.
     Over {
         id: u32,
@@ -97,13 +107,22 @@ pub enum Outcome {
         missing: Seq<Name>,
     },
     /// A client stopped it.
-    Stopped { by: u32 },
+    Stopped {
+        by: u32,
+    },
     /// It was given up after this many steps.
-    Spent { steps: u64 },
+    Spent {
+        steps: u64,
+    },
     /// No thread could go on. The numbers of the alive ones.
-    Stalled { threads: Seq<u32> },
+    Stalled {
+        threads: Seq<u32>,
+    },
     /// An operation met a value of another kind than it wants.
-    Wrong { wanted: KindName, found: KindName },
+    Wrong {
+        wanted: KindName,
+        found: KindName,
+    },
 }
 
 /// Why an act was refused. A refused act changes nothing but the history.
