@@ -29,7 +29,7 @@ use Rattle.jsh_core.specs.Runs.{collect, collect_run, own_run}
 use Rattle.jsh_core.proofs.WorldLemmas.{numbered-push}
 use Rattle.jsh_core.specs.Threads.{can_go_on, stepped, turned, Turned, performed, tree_of, tree_value, next}
 use Rattle.jsh_core.specs.Threads.Next.{Sets, Returns}
-use Rattle.jsh_core.proofs.TurnLemmas.{turned-suc, turned-stuck, further, stepped-returns}
+use Rattle.jsh_core.proofs.TurnLemmas.{turned-zero, turned-suc, turned-stuck, further, stepped-returns}
 
 -- the new run of a client, whose main thread is the last one and has done nothing yet
 pub record IsFresh (s : State) (client run : ℕ) : Type 0 where
@@ -65,6 +65,7 @@ stepped-sets book w number t frame body there running snippet first = rw (there,
 pub record IsEvaluated (s : State) (client main : ℕ) (body : Tree) : Type 0 where
   pub after : World
   pub turn : turned s.book main 256 s.world ≡ record { world = after; steps = 2 }
+  pub same : turned s.book main 2 s.world ≡ record { world = after; steps = 2 }
   pub runs : after.runs ≡ s.world.runs
   pub count : length after.threads ≡ length s.world.threads
   pub thread : numbered after.threads main ≡ Some (record { owner = client; steps = 2; frame = None; returned = Some (signed_decimal (tree_value body)) })
@@ -97,6 +98,9 @@ evaluated s client run f = record {
   turn = turned-suc s.book f.main 255 s.world ready
       ∙ ap (further 1) (ap (turned s.book f.main 255) one ∙ turned-suc s.book f.main 254 between ready
       ∙ ap (further 1) (ap (turned s.book f.main 254) two ∙ turned-stuck s.book f.main 254 behind over));
+  same = turned-suc s.book f.main 1 s.world ready
+      ∙ ap (further 1) (ap (turned s.book f.main 1) one ∙ turned-suc s.book f.main 0 between ready
+      ∙ ap (further 1) (ap (turned s.book f.main 0) two ∙ turned-zero s.book f.main behind));
   runs = refl;
   count = simp length-set;
   thread = numbered-set (set s.world.threads (f.main - 1) (thread_between client f.snippet)) f.main (thread_between client f.snippet) (thread_behind client f.body) there;

@@ -37,8 +37,8 @@ fn a_sum_is_run_and_collected_once(rt: HostRuntime) -> Result<(), Fail> {
     let alloc = rt.alloc();
     let mut parts = opened(alloc)?;
     let source = SrcText::from_text(alloc, "1 + 2")?;
-    let reply = submit(&mut parts, alloc, 1, &source)?;
-    let ReplyBody::Submitted(submitted) = reply.body else {
+    let Reply { output: _, body } = submit(&mut parts, alloc, 1, &source)?;
+    let ReplyBody::Submitted(submitted) = body else {
         panic!(rt; "the sum is refused");
     };
     assert_eq!(rt; (submitted.id, submitted.run), (1, Some(1)));

@@ -2,4 +2,4 @@
 use Rattle.jsh_core.proofs.engine.tests.a_client_enters_and_leaves.Given as goal
 
 abbrev pub ghosts-visited : goal.ghosts-visited
-ghosts-visited a = record { name = a.blank.name; parts = a.blank.parts }
+ghosts-visited g a = record { name = a.blank.name; parts = a.blank.parts }
