@@ -1,0 +1,46 @@
+//! The program `jsh`: it reads Java snippets from standard input and writes what is said to them.
+#![tactic(auto)]
+
+use jsh_io::{OpenGate, RealDesk};
+use jsh_shell::run;
+use std::alloc::Global;
+use std::env::args;
+use std::io;
+use std::process::ExitCode;
+
+/// The status for want of memory.
+const NO_MEMORY: u8 = 5;
+
+/// The words of the command line, without the program's name.
+fn words_after_name(alloc: Global, all: std::env::Args) -> io::Result<Vec<String>> {
+    let mut words = Vec::new(alloc);
+    let mut named = false;
+    for word in all {
+        if named {
+            words.push(word)?;
+        }
+        named = true;
+    }
+    Ok(words)
+}
+
+/// A word that isn't UTF-8 makes a faulty command line, for which one empty word stands here.
+fn faulty_line(alloc: Global) -> io::Result<Vec<String>> {
+    let mut words = Vec::new(alloc);
+    words.push(String::new(alloc))?;
+    Ok(words)
+}
+
+fn main(rt: HostRuntime) -> ExitCode {
+    let words = match args(&rt) {
+        Ok(all) => words_after_name(rt.alloc(), all),
+        Err(_unreadable) => faulty_line(rt.alloc()),
+    };
+    let words = match words {
+        Ok(words) => words,
+        Err(_refused) => return ExitCode::from(NO_MEMORY),
+    };
+    let mut desk = RealDesk::new(rt);
+    let report = run(&rt, rt.alloc(), words.as_slice(), &mut desk, &OpenGate);
+    ExitCode::from(report.status)
+}

@@ -1,0 +1,7 @@
+pub mod Walk
+pub mod Lengths
+pub mod ActLemmas
+pub mod ServeLemmas
+pub mod PieceLemmas
+pub mod ReadLemmas
+pub mod RunLemmas

@@ -1,0 +1,100 @@
+-- From the engine's opening to its close.
+use Rattle.std.proofs.Common.{◌≡◌, ℕ, ◌++◌, ◌∷◌, [], List, length, arith, sym, ◌∙◌, ap, subst, refl, inl, inr}
+use Rattle.jsh_snippet.specs.declared.acts.Entry.{Entry}
+use Rattle.jsh_snippet.specs.declared.acts.Act.TheVariants as act
+use Rattle.jsh_core.specs.History.{IsLegal}
+use Rattle.jsh_shell.specs.declared.reports.ClientReport.{ClientReport}
+use Rattle.jsh_shell.specs.Budget.{default_budget}
+use Rattle.jsh_shell.specs.Journal.{entry_of, IsFramed, IsServed}
+use Rattle.jsh_shell.specs.Serving.{IsServedBy}
+use Rattle.jsh_shell.proofs.RunLemmas.{allows-enter, allows-close-empty, allows-close, open-first, two-more, is-served, began, framed-one, framed-none, sole}
+use Rattle.jsh_shell.proofs.client.serve_client.Goals as goal
+
+pub returns-in-Err-clause-legal : goal.returns-in-Err-clause-legal
+returns-in-Err-clause-legal g c = subst (λ (h : List Entry). IsLegal h) (sym (c.report_without.ensures.journal ∙ c.new-in-Err.ensures.items)) tt
+
+pub returns-in-Err-clause-served : goal.returns-in-Err-clause-served
+returns-in-Err-clause-served g c = λ k d h.
+    let none : length c.report_without.result.clients.items ≡ 0 = ap length (c.report_without.ensures.clients ∙ c.requires.none) in
+    absurd (omega (arith, h, none))
+
+pub returns-in-Err-clause-alone : goal.returns-in-Err-clause-alone
+returns-in-Err-clause-alone g c = λ e. c.report_without.ensures.status
+
+pub returns-in-Err-clause-framed : goal.returns-in-Err-clause-framed
+returns-in-Err-clause-framed g c = inl (c.report_without.ensures.journal ∙ c.new-in-Err.ensures.items)
+
+pub enter_first-requires-clause-first : goal.enter_first-requires-clause-first
+enter_first-requires-clause-first g c = c.in-Ok.ensures
+
+pub enter_first-requires-clause-allows : goal.enter_first-requires-clause-allows
+enter_first-requires-clause-allows g c = allows-enter c.in-Ok.core c.in-Ok.ensures
+
+pub close-requires : goal.close-requires
+close-requires g c = allows-close-empty c.enter_first.new.core c.in-Err-enter_first.ensures.err
+
+pub returns-in-Err-enter_first-clause-legal : goal.returns-in-Err-enter_first-clause-legal
+returns-in-Err-enter_first-clause-legal g c = subst (λ (h : List Entry). IsLegal h) (sym (c.report_without-in-Err-enter_first.ensures.journal ∙ c.into_history.ensures.items)) c.into_history.ensures.legal
+
+pub returns-in-Err-enter_first-clause-served : goal.returns-in-Err-enter_first-clause-served
+returns-in-Err-enter_first-clause-served g c = λ k d h.
+    let none : length c.report_without-in-Err-enter_first.result.clients.items ≡ 0 = ap length (c.report_without-in-Err-enter_first.ensures.clients ∙ c.requires.none) in
+    absurd (omega (arith, h, none))
+
+pub returns-in-Err-enter_first-clause-alone : goal.returns-in-Err-enter_first-clause-alone
+returns-in-Err-enter_first-clause-alone g c = λ e. c.report_without-in-Err-enter_first.ensures.status
+
+pub returns-in-Err-enter_first-clause-framed : goal.returns-in-Err-enter_first-clause-framed
+returns-in-Err-enter_first-clause-framed g c =
+    let journal : c.report_without-in-Err-enter_first.result.journal.items ≡ entry_of 0 act.Close ∷ [] = c.report_without-in-Err-enter_first.ensures.journal ∙ c.into_history.ensures.items ∙ c.close.ensures
+    ∙ ap (λ (h : List Entry). h ++ entry_of 0 act.Close ∷ []) c.in-Err-enter_first.ensures.err in
+    inr (subst (λ (n : ℕ). IsFramed n c.report_without-in-Err-enter_first.result.journal.items)
+    (sym (ap length (c.report_without-in-Err-enter_first.ensures.clients ∙ c.requires.none))) (framed-none _ journal))
+
+pub serve_pieces-status-requires-clause-open : goal.serve_pieces-status-requires-clause-open
+serve_pieces-status-requires-clause-open g c = open-first c.enter_first.new.core c.in-Ok-enter_first.ensures.ok
+
+pub serve_pieces-status-requires-clause-piece : goal.serve_pieces-status-requires-clause-piece
+serve_pieces-status-requires-clause-piece g c = c.requires.piece
+
+pub leave-requires : goal.leave-requires
+leave-requires g c = c.serve_pieces-status.ensures.open
+
+pub close-requires-2 : goal.close-requires-2
+close-requires-2 g c = allows-close c.serve_pieces-status.new.core c.leave.new.core c.serve_pieces-status.ensures.open c.leave.ensures
+
+pub push_report-requires : goal.push_report-requires
+push_report-requires g c = c.requires.room
+
+pub returns-clause-legal : goal.returns-clause-legal
+returns-clause-legal g c = subst (λ (h : List Entry). IsLegal h) (sym (c.report_without-2.ensures.journal ∙ c.into_history-2.ensures.items)) c.into_history-2.ensures.legal
+
+pub returns-clause-served : goal.returns-clause-served
+returns-clause-served g c =
+    let journal : c.report_without-2.result.journal.items ≡ c.serve_pieces-status.new.core ++ entry_of 1 act.Leave ∷ entry_of 0 act.Close ∷ []
+    = c.report_without-2.ensures.journal ∙ c.into_history-2.ensures.items ∙ two-more _ _ _ _ _ c.leave.ensures c.close-2.ensures in
+    let by : IsServedBy 1 c.serve_pieces-status.result (entry_of 0 act.Enter ∷ []) c.serve_pieces-status.new.core (g.I.Source.left c.args.source) (g.I.Source.left c.serve_pieces-status.new.source) (g.O.Sink.held c.args.sink) (g.O.Sink.held c.serve_pieces-status.new.sink)
+    = subst (λ (h : List Entry). IsServedBy 1 c.serve_pieces-status.result h c.serve_pieces-status.new.core (g.I.Source.left c.args.source) (g.I.Source.left c.serve_pieces-status.new.source) (g.O.Sink.held c.args.sink) (g.O.Sink.held c.serve_pieces-status.new.sink))
+    c.in-Ok-enter_first.ensures.ok c.serve_pieces-status.ensures.served in
+    sole (λ (r : ClientReport g.row.I.Denot g.row.O.Denot). (r.number ≡ 1) × (r.status ≡ c.report_without-2.result.status)
+    × IsServed default_budget r.number r.status c.report_without-2.result.journal.items (g.I.Source.left c.args.source) (g.I.Source.left r.source) (g.O.Sink.held r.sink))
+    c.report_without-2.result.clients.items
+    (record { number = 1; status = c.serve_pieces-status.result; source = c.serve_pieces-status.new.source; sink = c.serve_pieces-status.new.sink })
+    (c.report_without-2.ensures.clients ∙ c.push_report.ensures ∙ ap (λ xs. xs ++ record { number = 1; status = c.serve_pieces-status.result; source = c.serve_pieces-status.new.source; sink = c.serve_pieces-status.new.sink } ∷ []) c.requires.none)
+    (refl, sym c.report_without-2.ensures.status, is-served c.serve_pieces-status.result c.serve_pieces-status.new.core c.report_without-2.result.journal.items _ _ _ _ journal c.requires.empty by)
+
+pub returns-clause-alone : goal.returns-clause-alone
+returns-clause-alone g c = λ e.
+    let one : length c.report_without-2.result.clients.items ≡ 1 = ap length (c.report_without-2.ensures.clients ∙ c.push_report.ensures ∙ ap (λ xs. xs ++ record { number = 1; status = c.serve_pieces-status.result; source = c.serve_pieces-status.new.source; sink = c.serve_pieces-status.new.sink } ∷ []) c.requires.none) in
+    let none : length c.report_without-2.result.clients.items ≡ 0 = ap length e in
+    absurd (omega (arith, one, none))
+
+pub returns-clause-framed : goal.returns-clause-framed
+returns-clause-framed g c =
+    let journal : c.report_without-2.result.journal.items ≡ c.serve_pieces-status.new.core ++ entry_of 1 act.Leave ∷ entry_of 0 act.Close ∷ []
+    = c.report_without-2.ensures.journal ∙ c.into_history-2.ensures.items ∙ two-more _ _ _ _ _ c.leave.ensures c.close-2.ensures in
+    let by : IsServedBy 1 c.serve_pieces-status.result (entry_of 0 act.Enter ∷ []) c.serve_pieces-status.new.core (g.I.Source.left c.args.source) (g.I.Source.left c.serve_pieces-status.new.source) (g.O.Sink.held c.args.sink) (g.O.Sink.held c.serve_pieces-status.new.sink)
+    = subst (λ (h : List Entry). IsServedBy 1 c.serve_pieces-status.result h c.serve_pieces-status.new.core (g.I.Source.left c.args.source) (g.I.Source.left c.serve_pieces-status.new.source) (g.O.Sink.held c.args.sink) (g.O.Sink.held c.serve_pieces-status.new.sink))
+    c.in-Ok-enter_first.ensures.ok c.serve_pieces-status.ensures.served in
+    let one : length c.report_without-2.result.clients.items ≡ 1 = ap length (c.report_without-2.ensures.clients ∙ c.push_report.ensures ∙ ap (λ xs. xs ++ record { number = 1; status = c.serve_pieces-status.result; source = c.serve_pieces-status.new.source; sink = c.serve_pieces-status.new.sink } ∷ []) c.requires.none) in
+    inr (subst (λ (n : ℕ). IsFramed n c.report_without-2.result.journal.items) (sym one) (framed-one c.serve_pieces-status.new.core _ journal (began _ _ _ _ _ _ by)))

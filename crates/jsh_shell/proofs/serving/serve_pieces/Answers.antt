@@ -1,0 +1,109 @@
+-- Piece by piece, until there is no more.
+use Rattle.std.proofs.Common.{◌≡◌, ◌≤◌, ◌<◌, ◌+◌, ◌-◌, ◌∷◌, [], arith, sym, ◌∙◌, ap, subst, List, ℕ, length, take, Ok, length-take}
+use Rattle.std.specs.Io.KnownBytes.{prepend_known}
+use Rattle.jsh_lines.specs.Lines.{evals}
+use Rattle.jsh_shell.specs.Budget.{most_input}
+use Rattle.jsh_shell.specs.Serving.{Serves, ServesPart}
+use Rattle.jsh_shell.proofs.ReadLemmas.{IsReading, reading-start, reading-more, served-failed, served-most, served-whole, served-part-end, served-part-piece, uncut-held}
+use Rattle.jsh_shell.proofs.serving.serve_pieces.Goals as goal
+
+pub pieces-init : goal.pieces-init
+pieces-init g c = record {
+  «open» = c.requires.open;
+  few = omega arith;
+  reading = subst (λ (h : List ℕ). IsReading c.args.client c.args.core.now c.args.core.now (g.I.Source.left c.args.source.now) (g.I.Source.left c.args.source.now) (g.O.Sink.held c.args.sink.now) (g.O.Sink.held c.args.sink.now) h 0)
+      (sym c.new-held.ensures.items) (reading-start _ _ _ _);
+}
+
+pub overflow_sub-total : goal.overflow_sub-total
+overflow_sub-total g c = c.pieces.invariant.few
+
+pub read_some-requires-clause-some : goal.read_some-requires-clause-some
+read_some-requires-clause-some g c = let t : c.pieces.total < 1073741824 = c.pieces-test.true in omega (arith, c.min-room.ensures, t)
+
+pub read_some-requires-clause-fits : goal.read_some-requires-clause-fits
+read_some-requires-clause-fits g c = omega (arith, c.min-room.ensures, c.pieces.auto.buffer, c.requires.piece)
+
+pub returns-in-Err-clause-served : goal.returns-in-Err-clause-served
+returns-in-Err-clause-served g c = served-failed _ _ _ _ _ _ _ _ c.pieces.held.items c.pieces.total c.pieces.invariant.reading c.in-Err.ensures.none_lost c.pieces.invariant.few
+
+pub returns-in-Err-clause-open : goal.returns-in-Err-clause-open
+returns-in-Err-clause-open g c = c.pieces.invariant.open
+
+pub serve_line-requires : goal.serve_line-requires
+serve_line-requires g c = c.pieces.invariant.open
+
+pub returns-in-Ok-serve_line-clause-served : goal.returns-in-Ok-serve_line-clause-served
+returns-in-Ok-serve_line-clause-served g c =
+    let none : c.in-Ok.count ≡ 0 = c.if-count-eq0.true in
+    served-whole _ _ _ _ _ _ _ _ _ _ c.pieces.held.items c.pieces.total c.pieces.invariant.reading
+    (c.in-Ok.ensures.bytes ∙ ap (λ n. prepend_known (take n c.read_some.new.buffer) (g.I.Source.left c.read_some.new.source)) none)
+    (c.in-Ok.ensures.end (ap Ok none)) c.pieces.invariant.few
+    (subst (λ (line : List ℕ). Serves c.args.client c.pieces.core c.serve_line.new.core (g.O.Sink.held c.pieces.sink) (g.O.Sink.held c.serve_line.new.sink) (evals (line ∷ []))) c.as_slice.ensures.value c.in-Ok-serve_line.ensures.ok)
+
+pub returns-in-Ok-serve_line-clause-open : goal.returns-in-Ok-serve_line-clause-open
+returns-in-Ok-serve_line-clause-open g c = c.in-Ok-serve_line.ensures.open
+
+pub returns-in-Err-serve_line-clause-served : goal.returns-in-Err-serve_line-clause-served
+returns-in-Err-serve_line-clause-served g c =
+    let none : c.in-Ok.count ≡ 0 = c.if-count-eq0.true in
+    served-part-end c.in-Err-serve_line.why _ c.status.result _ _ _ _ _ _ _ _ _ c.pieces.held.items c.pieces.total c.pieces.invariant.reading
+    (c.in-Ok.ensures.bytes ∙ ap (λ n. prepend_known (take n c.read_some.new.buffer) (g.I.Source.left c.read_some.new.source)) none)
+    (c.in-Ok.ensures.end (ap Ok none)) c.pieces.invariant.few c.status.ensures
+    (subst (λ (line : List ℕ). ServesPart c.in-Err-serve_line.why c.args.client c.pieces.core c.serve_line.new.core (g.O.Sink.held c.pieces.sink) (g.O.Sink.held c.serve_line.new.sink) (evals (line ∷ []))) c.as_slice.ensures.value c.in-Err-serve_line.ensures.err)
+
+pub returns-in-Err-serve_line-clause-open : goal.returns-in-Err-serve_line-clause-open
+returns-in-Err-serve_line-clause-open g c = c.in-Err-serve_line.ensures.open
+
+pub slice_bounds-serve_piece-end : goal.slice_bounds-serve_piece-end
+slice_bounds-serve_piece-end g c = omega (arith, c.in-Ok.ensures.bound, c.min-room.ensures, c.read_some.auto.buffer, c.pieces.auto.buffer, c.requires.piece)
+
+pub slice_bounds-serve_piece-end-in-pieces : goal.slice_bounds-serve_piece-end-in-pieces
+slice_bounds-serve_piece-end-in-pieces g c =
+    let within : c.in-Ok.count ≤ length c.read_some.new.buffer = omega (arith, c.in-Ok.ensures.bound, c.min-room.ensures, c.read_some.auto.buffer, c.pieces.auto.buffer, c.requires.piece) in
+    omega (arith, within, length-take c.in-Ok.count c.read_some.new.buffer)
+
+pub serve_piece-requires-clause-open : goal.serve_piece-requires-clause-open
+serve_piece-requires-clause-open g c = c.pieces.invariant.open
+
+pub serve_piece-requires-clause-uncut : goal.serve_piece-requires-clause-uncut
+serve_piece-requires-clause-uncut g c = uncut-held c.pieces.held.items c.pieces.invariant.reading.read c.pieces.invariant.reading.held
+
+pub returns-in-Err-serve_piece-clause-served : goal.returns-in-Err-serve_piece-clause-served
+returns-in-Err-serve_piece-clause-served g c =
+    let within : c.in-Ok.count ≤ length c.read_some.new.buffer = omega (arith, c.in-Ok.ensures.bound, c.min-room.ensures, c.read_some.auto.buffer, c.pieces.auto.buffer, c.requires.piece) in
+    let few : c.pieces.total + length (take c.in-Ok.count c.read_some.new.buffer) ≤ most_input = omega (arith, within, length-take c.in-Ok.count c.read_some.new.buffer, c.in-Ok.ensures.bound, c.min-room.ensures, c.pieces.invariant.few) in
+    served-part-piece c.in-Err-serve_piece.why _ c.status-in-Err-serve_piece.result _ _ _ _ _ _ _ _ _ c.pieces.held.items (take c.in-Ok.count c.read_some.new.buffer) c.pieces.total c.pieces.invariant.reading
+    c.in-Ok.ensures.bytes few c.status-in-Err-serve_piece.ensures c.in-Err-serve_piece.ensures.err
+
+pub returns-in-Err-serve_piece-clause-open : goal.returns-in-Err-serve_piece-clause-open
+returns-in-Err-serve_piece-clause-open g c = c.in-Err-serve_piece.ensures.open
+
+pub overflow_add-total : goal.overflow_add-total
+overflow_add-total g c = omega (arith, c.in-Ok.ensures.bound, c.min-room.ensures, c.pieces.invariant.few)
+
+pub pieces-smaller : goal.pieces-smaller
+pieces-smaller g c =
+    let t : c.pieces.total < 1073741824 = c.pieces-test.true in
+    let some : 0 < c.in-Ok.count = omega (arith, c.if-count-eq0.false) in
+    let less : most_input - (c.pieces.total + c.in-Ok.count) < most_input - c.pieces.total = omega (arith, c.in-Ok.ensures.bound, c.min-room.ensures, t, some) in
+    less
+
+pub pieces-preserved : goal.pieces-preserved
+pieces-preserved g c =
+    let within : c.in-Ok.count ≤ length c.read_some.new.buffer = omega (arith, c.in-Ok.ensures.bound, c.min-room.ensures, c.read_some.auto.buffer, c.pieces.auto.buffer, c.requires.piece) in
+    let long : c.pieces.total + c.in-Ok.count ≡ c.pieces.total + length (take c.in-Ok.count c.read_some.new.buffer) = omega (arith, within, length-take c.in-Ok.count c.read_some.new.buffer) in
+    record {
+      «open» = c.in-Ok-serve_piece.ensures.open;
+      few = omega (arith, c.in-Ok.ensures.bound, c.min-room.ensures, c.pieces.invariant.few);
+      reading = reading-more _ _ _ _ _ _ _ _ _ _ c.pieces.held.items (take c.in-Ok.count c.read_some.new.buffer) _ c.pieces.total (c.pieces.total + c.in-Ok.count) c.pieces.invariant.reading
+          c.in-Ok.ensures.bytes long c.in-Ok-serve_piece.ensures.ok c.in-Ok-serve_piece.ensures.held;
+    }
+
+pub returns-clause-served : goal.returns-clause-served
+returns-clause-served g c =
+    let full : c.pieces.total ≡ most_input = omega (arith, c.pieces-test.false, c.pieces.invariant.few) in
+    served-most _ _ _ _ _ _ _ c.pieces.held.items c.pieces.total c.pieces.invariant.reading full
+
+pub returns-clause-open : goal.returns-clause-open
+returns-clause-open g c = c.pieces.invariant.open

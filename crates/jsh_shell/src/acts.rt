@@ -1,0 +1,95 @@
+ghost use Rattle.std.specs.Prelude.{◌≡◌, ◌<◌, ◌≤◌, false, length, slice_get, Some, Err, IfErr, IfOk, OnErr, OnOk};
+ghost use Rattle.std.specs.Io.KnownBytes.{append_known};
+ghost use Rattle.jsh_render.specs.Texts.{shown};
+ghost use Rattle.jsh_core.specs.Snippets.{run_of};
+ghost use Rattle.jsh_core.specs.History.{Allows};
+ghost use Rattle.jsh_shell.specs.declared.halts.Halt.TheVariants as halt;
+ghost use Rattle.jsh_shell.specs.Progress.{is_limit};
+ghost use Rattle.jsh_shell.specs.Transcript.{is_turn};
+ghost use Rattle.jsh_shell.specs.Serving.{Fails, HasCause, Shows, WritesPart};
+
+use crate::halts::Halt;
+use jsh_core::Core;
+use jsh_io::{Sink, write_whole};
+use jsh_render::show;
+use jsh_snippet::{Entry, Refusal, Reply, ReplyBody};
+use jsh_steps::Steps;
+use std::alloc::Global;
+use std::sync::ledger::Ledger;
+
+/// Whether an act was refused at a limit.
+pub fn is_limit(body: &ReplyBody) -> bool
+    ensures { result ≡ is_limit body.now }
+{
+    matches!(body, ReplyBody::Refused(Refusal::Limit { .. }))
+}
+
+/// The run that a submitted snippet has.
+pub fn run_of(body: &ReplyBody) -> Option<u32>
+    ensures { result ≡ run_of body.now }
+{
+    match body {
+        ReplyBody::Submitted(what) => what.run,
+        _ => None,
+    }
+}
+
+/// The entry at this place.
+fn entry_at(core: &Core, place: u64) -> &Entry
+    requires { place < length core.now }
+    ensures { slice_get core.now place ≡ Some result.now }
+{
+    match core.entry(place) {
+        Some(entry) => entry,
+        None => unreachable!(),
+    }
+}
+
+/// Writes what is said to an entry.
+fn write_shown<O: Sink>(
+    alloc: Global,
+    entry: &Entry,
+    reply: &Reply,
+    sink: &mut O,
+) -> Result<(), Halt>
+    ensures ok { OnOk result (O.held sink.new ≡ append_known (O.held sink.old) (shown entry.now reply.now)) }
+    ensures err { OnErr result (WritesPart (O.held sink.old) (O.held sink.new) (shown entry.now reply.now)) }
+    ensures cause { IfErr result (λ why. HasCause why (O.faults sink.old) (O.faults sink.new)) }
+    ensures limit { result ≡ Err halt.Limit → ⊥ }
+    ensures never_falls { O.faults sink.old ≤ O.faults sink.new }
+{
+    let bytes = match show(alloc, entry, reply) {
+        Ok(bytes) => bytes,
+        Err(_) => return Err(Halt::NoMemory),
+    };
+    match write_whole(sink, &bytes) {
+        Ok(()) => Ok(()),
+        Err(_) => Err(Halt::SinkFailed),
+    }
+}
+
+/// Does an act other than a turn, and writes what is said to it.
+pub fn perform<O: Sink, L: Ledger>(
+    alloc: Global,
+    core: &mut Core,
+    entry: Entry,
+    sink: &mut O,
+    steps: &mut Steps<L>,
+) -> Result<Reply, Halt>
+    requires allows { Allows core.old entry }
+    requires quiet { is_turn entry.act ≡ false }
+    ensures ok { IfOk result (λ reply. Shows core.old core.new entry reply (O.held sink.old) (O.held sink.new)) }
+    ensures err { IfErr result (λ why. Fails why core.old core.new entry (O.held sink.old) (O.held sink.new)) }
+    ensures cause { IfErr result (λ why. HasCause why (O.faults sink.old) (O.faults sink.new)) }
+    ensures never_falls { O.faults sink.old ≤ O.faults sink.new }
+{
+    let place = core.len();
+    let reply = match core.apply(alloc, entry, steps) {
+        Ok(reply) => reply,
+        Err(_) => return Err(Halt::NoMemory),
+    };
+    match write_shown(alloc, entry_at(core, place), &reply, sink) {
+        Ok(()) => Ok(reply),
+        Err(why) => Err(why),
+    }
+}

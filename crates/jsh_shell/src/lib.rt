@@ -1,0 +1,14 @@
+//! The shell: it reads a client's input, hands its commands to the engine, and writes what is said to
+//! them. The call that a program makes is [`run`].
+#![tactic(auto)]
+
+mod acts;
+mod client;
+mod evaluation;
+mod halts;
+mod reports;
+mod serving;
+mod shell;
+
+pub use reports::{ClientReport, Report};
+pub use shell::{USAGE, run};

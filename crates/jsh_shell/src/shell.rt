@@ -1,0 +1,148 @@
+ghost use Rattle.std.specs.Prelude.{◌≡◌, ◌≢◌, [], ℕ, ◌<◌, ◌⊎◌, List, Option, Some, IfSome, IsSomeAnd, length, vec_len, vec_capacity};
+ghost use Rattle.std.specs.List.{All};
+ghost use Rattle.std.specs.Io.KnownBytes.{append_known};
+ghost use Rattle.jsh_io.specs.Count.{Rose, TakesPart};
+ghost use Rattle.jsh_io.specs.Inputs.{IsEmptyWhereTold};
+ghost use Rattle.jsh_core.specs.History.{IsLegal};
+ghost use Rattle.jsh_shell.specs.Budget.{default_budget};
+ghost use Rattle.jsh_shell.specs.Journal.{IsFramed, IsServed};
+
+use crate::client::{push_report, report_without, serve_client};
+use crate::reports::{ClientReport, Report};
+use crate::serving::PIECE;
+use jsh_io::{Desk, Gate, Sink, Source, write_whole};
+use jsh_steps::Steps;
+use std::alloc::Global;
+use std::marker::Brand;
+use std::sync::Wait;
+use std::sync::ledger::{Blank, Ledger};
+use std::thread::Threads;
+
+/// What is written where the words are refused.
+pub const USAGE: &str =
+    "usage: jsh [--workers N] [--budget N] [--journal FILE] [--startup FILE] [SCRIPT..] | --demo N | --replay FILE\n";
+
+/// Serves the one client with a counter of steps of its own.
+fn serve_counted<I: Source + Drop, O: Sink + Drop, L: Ledger>(
+    alloc: Global,
+    source: I,
+    sink: O,
+    buffer: &mut [u8],
+    clients: Vec<ClientReport<I, O>>,
+    blank: Blank,
+) -> Report<I, O>
+    requires none { clients.items ≡ [] }
+    requires room { vec_len clients < vec_capacity clients }
+    requires piece { length buffer.old ≡ PIECE }
+    requires empty { IsEmptyWhereTold (O.held sink) }
+    requires name { blank.name ≡ L.name }
+    requires parts { blank.parts ≡ L.parts }
+    requires some { 0 < L.parts }
+    ensures legal { IsLegal result.journal.items }
+    ensures served { All (λ r. (r.number ≡ 1) × (r.status ≡ result.status)
+        × IsServed default_budget r.number r.status result.journal.items (I.left source) (I.left r.source) (O.held r.sink)) result.clients.items }
+    ensures alone { (result.clients.items ≡ []) → (result.status ≡ 5) }
+    ensures framed { (result.journal.items ≡ []) ⊎ IsFramed (length result.clients.items) result.journal.items }
+{
+    let mut steps = Steps::<L>::open(blank);
+    serve_client(alloc, source, sink, buffer, clients, &mut steps)
+}
+
+/// Serves the one client over the standard streams.
+fn serve_standard<I: Source + Drop, O: Sink + Drop>(
+    alloc: Global,
+    source: I,
+    sink: O,
+    clients: Vec<ClientReport<I, O>>,
+) -> Report<I, O>
+    requires none { clients.items ≡ [] }
+    requires room { vec_len clients < vec_capacity clients }
+    requires empty { IsEmptyWhereTold (O.held sink) }
+    ensures legal { IsLegal result.journal.items }
+    ensures served { All (λ r. (r.number ≡ 1) × (r.status ≡ result.status)
+        × IsServed default_budget r.number r.status result.journal.items (I.left source) (I.left r.source) (O.held r.sink)) result.clients.items }
+    ensures alone { (result.clients.items ≡ []) → (result.status ≡ 5) }
+    ensures framed { (result.journal.items ≡ []) ⊎ IsFramed (length result.clients.items) result.journal.items }
+{
+    let mut buffer = match vec![in alloc; 0u8; PIECE] {
+        Ok(buffer) => buffer,
+        Err(_refused) => return report_without(5, Vec::new(alloc), clients),
+    };
+    serve_counted::<I, O, Brand>(alloc, source, sink, &mut buffer, clients, Blank::new(1))
+}
+
+/// Writes how the program is called.
+fn refuse<I: Source + Drop, O: Sink + Drop>(
+    alloc: Global,
+    source: I,
+    sink: O,
+    clients: Vec<ClientReport<I, O>>,
+) -> Report<I, O>
+    requires none { clients.items ≡ [] }
+    requires room { vec_len clients < vec_capacity clients }
+    ensures journal { result.journal.items ≡ [] }
+    ensures status { result.status ≡ 2 }
+    ensures usage { All (λ r. (r.number ≡ 0) × (r.status ≡ 2) × ((O.held r.sink ≡ append_known (O.held sink) USAGE.now)
+        ⊎ (TakesPart (O.held sink) (O.held r.sink) USAGE.now × Rose (O.faults sink) (O.faults r.sink)))) result.clients.items }
+    ensures one { length result.clients.items ≡ 1 }
+{
+    let mut sink = sink;
+    let _ = write_whole(&mut sink, USAGE.as_bytes());
+    let mut clients = clients;
+    push_report(
+        &mut clients,
+        ClientReport {
+            number: 0,
+            status: 2,
+            source,
+            sink,
+        },
+    );
+    report_without(2, Vec::new(alloc), clients)
+}
+
+/// Serves clients over one engine, and reports what they came to and the one journal. So far there is
+/// one client, over the standard streams, and the words have to be empty.
+///
+/// Statuses: 0 where the input was read to its end and served, 2 where the words are refused, 3 where a
+/// read or an opening for input failed, 4 where a write failed, 5 for want of memory, 6 at a limit.
+pub fn run<R: Threads + Wait + Sync, D: Desk, G: Gate>(
+    _rt: &R,
+    alloc: Global,
+    words: &[String],
+    desk: &mut D,
+    _gate: &G,
+) -> Report<D::In, D::Out>
+    // The journal is legal. Where it isn't empty, client 0 enters the clients first and closes last.
+    ensures legal { IsLegal result.journal.items }
+    ensures framed { (result.journal.items ≡ []) ⊎ IsFramed (length result.clients.items) result.journal.items }
+
+    // Each client's entries follow its commands, and it is written its transcript over the journal.
+    ensures served { words.now ≡ [] → All (λ r. (r.number ≡ 1) × (r.status ≡ result.status) × ((given : Option (List ℕ))
+        × IfSome (D.inputs desk.old) (λ all. IsSomeAnd all.standard (λ bytes. given ≡ Some bytes))
+        × IsServed default_budget r.number r.status result.journal.items given (D.In.left r.source) (D.Out.held r.sink))) result.clients.items }
+
+    // Without a client, the streams could not be opened, or memory was wanting.
+    ensures alone { (result.clients.items ≡ []) → ((result.status ≡ 3) × Rose (D.input_faults desk.old) (D.input_faults desk.new)) ⊎ (result.status ≡ 5) }
+
+    // Refused words: the usage line is written, and nothing else is done.
+    ensures refused { words.now ≢ [] → result.journal.items ≡ [] }
+    ensures usage { words.now ≢ [] → All (λ r. (r.number ≡ 0) × (r.status ≡ 2) × (result.status ≡ 2)) result.clients.items }
+{
+    let clients = match Vec::with_capacity(alloc, 1) {
+        Ok(clients) => clients,
+        Err(_refused) => return report_without(5, Vec::new(alloc), Vec::new(alloc)),
+    };
+    let (source, sink) = match desk.standard() {
+        Ok(streams) => streams,
+        Err(_failed) => return report_without(3, Vec::new(alloc), clients),
+    };
+    if words.is_empty() {
+        serve_standard(alloc, source, sink, clients)
+    } else {
+        refuse(alloc, source, sink, clients)
+    }
+}
+
+#[cfg(test)]
+mod tests;
