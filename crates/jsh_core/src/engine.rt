@@ -66,7 +66,7 @@ impl Core {
 
     /// An engine with client 0 alone, and room for its leave and its close.
     pub fn new(alloc: Global) -> Result<Core, NoMemory>
-        ensures { IfOk result (λ core. core ≡ []) }
+        ensures empty { IfOk result (λ core. core ≡ []) }
     {
         let mut history = Vec::new(alloc);
         history.reserve(LAST_ENTRIES)?;
@@ -257,53 +257,54 @@ impl Core {
 
     /// The number of entries.
     pub fn len(&self) -> u64
-        ensures { result ≡ length self.now }
+        ensures entries { result ≡ length self.now }
     {
         self.history.len() as u64
     }
 
     /// How many clients were numbered, client 0 included.
     pub fn numbers(&self) -> u32
-        ensures { result ≡ length (state_of self.now).clients }
+        ensures clients { result ≡ length (state_of self.now).clients }
     {
         self.parts.clients.len() as u32
     }
 
     /// The bytes of all sources in the history.
     pub fn source_bytes(&self) -> u64
-        ensures { result ≡ source_bytes self.now }
+        ensures bytes { result ≡ source_bytes self.now }
     {
         self.bytes
     }
 
     /// The place of the close, if one stands.
     pub fn closed_at(&self) -> Option<u64>
-        ensures { result ≡ closed_at self.now }
+        ensures place { result ≡ closed_at self.now }
     {
         self.closed
     }
 
     /// A run, or None where it was never made, was collected or was dropped.
     pub fn run(&self, run: u32) -> Option<RunView>
-        ensures { result ≡ run_view (state_of self.now) run }
+        ensures view { result ≡ run_view (state_of self.now) run }
     {
         view_run(&self.parts, run)
     }
 
     /// The state of thread i + 1 at place i.
     pub fn states(&self) -> &[ThreadState]
-        ensures { result.now ≡ (state_of self.now).world.states }
+        ensures threads { result.now ≡ (state_of self.now).world.states }
     {
         self.parts.world.states.as_slice()
     }
 
     /// The entry at this place, from 0.
     pub fn entry(&self, place: u64) -> Option<&Entry>
-        ensures { option_copied result ≡ slice_get self.now place }
+        ensures found { option_copied result ≡ slice_get self.now place }
     {
         self.history.get(place as usize)
     }
 
+    /// The entries, first to last.
     pub fn into_history(self) -> Vec<Entry>
         ensures items { result.items ≡ self }
         ensures legal { IsLegal self }

@@ -7,7 +7,7 @@ use Rattle.jsh_shell.proofs.Walk.{kept-quiet, grown-entry, same-entry, writes-pa
 use Rattle.jsh_shell.proofs.acts.perform.Goals as goal
 
 pub entry_at-requires : goal.entry_at-requires
-entry_at-requires g c = grown-entry _ _ _ _ (c.in-Ok.ensures.history ∙ ap (λ (e : Entry). c.args.core.now ++ e ∷ []) (kept-quiet c.args.entry c.in-Ok.reply c.requires.quiet)) c.len-place.ensures
+entry_at-requires g c = grown-entry _ _ _ _ (c.in-Ok.ensures.history ∙ ap (λ (e : Entry). c.args.core.now ++ e ∷ []) (kept-quiet c.args.entry c.in-Ok.reply c.requires.quiet)) c.len-place.ensures.entries
 
 pub returns-in-Ok-write_shown-clause-ok : goal.returns-in-Ok-write_shown-clause-ok
 returns-in-Ok-write_shown-clause-ok g c =
@@ -15,13 +15,13 @@ returns-in-Ok-write_shown-clause-ok g c =
     record {
       reply = c.in-Ok.ensures.reply;
       grows = grows;
-      written = c.in-Ok-write_shown.ensures.ok ∙ ap (λ (e : Entry). append_known (g.O.Sink.held c.args.sink.now) (shown e c.in-Ok.reply)) (same-entry _ _ _ _ _ grows c.len-place.ensures c.entry_at.ensures);
+      written = c.in-Ok-write_shown.ensures.ok ∙ ap (λ (e : Entry). append_known (g.O.Sink.held c.args.sink.now) (shown e c.in-Ok.reply)) (same-entry _ _ _ _ _ grows c.len-place.ensures.entries c.entry_at.ensures);
     }
 
 pub returns-in-Err-write_shown-clause-err : goal.returns-in-Err-write_shown-clause-err
 returns-in-Err-write_shown-clause-err g c =
     let grows : c.apply.new.self ≡ c.args.core.now ++ c.args.entry ∷ [] = c.in-Ok.ensures.history ∙ ap (λ (e : Entry). c.args.core.now ++ e ∷ []) (kept-quiet c.args.entry c.in-Ok.reply c.requires.quiet) in
     inr (
-      record { grows = grows; part = writes-part _ _ _ _ (ap (λ (e : Entry). shown e c.in-Ok.reply) (same-entry _ _ _ _ _ grows c.len-place.ensures c.entry_at.ensures) ∙ ap (shown c.args.entry) c.in-Ok.ensures.reply) c.in-Err-write_shown.ensures.err },
+      record { grows = grows; part = writes-part _ _ _ _ (ap (λ (e : Entry). shown e c.in-Ok.reply) (same-entry _ _ _ _ _ grows c.len-place.ensures.entries c.entry_at.ensures) ∙ ap (shown c.args.entry) c.in-Ok.ensures.reply) c.in-Err-write_shown.ensures.err },
       λ limit. c.in-Err-write_shown.ensures.limit (ap Err limit),
     )

@@ -25,10 +25,10 @@ pub returns-in-Err-clause-framed : goal.returns-in-Err-clause-framed
 returns-in-Err-clause-framed g c = inl (c.report_without.ensures.journal ∙ c.new-in-Err.ensures.items)
 
 pub enter_first-requires-clause-first : goal.enter_first-requires-clause-first
-enter_first-requires-clause-first g c = c.in-Ok.ensures
+enter_first-requires-clause-first g c = c.in-Ok.ensures.empty
 
 pub enter_first-requires-clause-allows : goal.enter_first-requires-clause-allows
-enter_first-requires-clause-allows g c = allows-enter c.in-Ok.core c.in-Ok.ensures
+enter_first-requires-clause-allows g c = allows-enter c.in-Ok.core c.in-Ok.ensures.empty
 
 pub close-requires : goal.close-requires
 close-requires g c = allows-close-empty c.enter_first.new.core c.in-Err-enter_first.ensures.err

@@ -5,7 +5,7 @@ use Rattle.jsh_shell.proofs.evaluation.hand_out.Goals as goal
 
 pub returns-then-len-ge-MAX_HISTORY-clause-err : goal.returns-then-len-ge-MAX_HISTORY-clause-err
 returns-then-len-ge-MAX_HISTORY-clause-err g c =
-    let full : 4194304 ≤ length c.args.core.now = omega (arith, c.len.ensures, c.if-len-ge-MAX_HISTORY.true) in
+    let full : 4194304 ≤ length c.args.core.now = omega (arith, c.len.ensures.entries, c.if-len-ge-MAX_HISTORY.true) in
     hands-out-full _ _ _ _ full
 
 pub returns-then-len-ge-MAX_HISTORY-clause-open : goal.returns-then-len-ge-MAX_HISTORY-clause-open
@@ -16,7 +16,7 @@ returns-then-len-ge-MAX_HISTORY-clause-never_falls g c = omega arith
 
 pub perform-requires-clause-allows : goal.perform-requires-clause-allows
 perform-requires-clause-allows g c =
-    let some : length c.args.core.now < 4194304 = omega (arith, c.len.ensures, c.if-len-ge-MAX_HISTORY.false) in
+    let some : length c.args.core.now < 4194304 = omega (arith, c.len.ensures.entries, c.if-len-ge-MAX_HISTORY.false) in
     record { present = c.requires.«open».present; «open» = c.requires.«open».«open»; may = some }
 
 pub perform-requires-clause-quiet : goal.perform-requires-clause-quiet

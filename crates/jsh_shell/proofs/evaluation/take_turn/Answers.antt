@@ -6,7 +6,7 @@ use Rattle.jsh_shell.proofs.evaluation.take_turn.Goals as goal
 
 pub returns-then-len-ge-MAX_HISTORY-clause-err : goal.returns-then-len-ge-MAX_HISTORY-clause-err
 returns-then-len-ge-MAX_HISTORY-clause-err g c =
-    let full : 4194304 ≤ length c.args.core.now = omega (arith, c.len.ensures, c.if-len-ge-MAX_HISTORY.true) in
+    let full : 4194304 ≤ length c.args.core.now = omega (arith, c.len.ensures.entries, c.if-len-ge-MAX_HISTORY.true) in
     turns-full _ _ _ full
 
 pub returns-then-len-ge-MAX_HISTORY-clause-open : goal.returns-then-len-ge-MAX_HISTORY-clause-open
@@ -20,7 +20,7 @@ main_of-thread-requires g c = fresh-there (state_of c.args.core.now) c.args.clie
 
 pub apply-requires : goal.apply-requires
 apply-requires g c =
-    let some : length c.args.core.now < 4194304 = omega (arith, c.len.ensures, c.if-len-ge-MAX_HISTORY.false) in
+    let some : length c.args.core.now < 4194304 = omega (arith, c.len.ensures.entries, c.if-len-ge-MAX_HISTORY.false) in
     record { present = c.requires.open.present; «open» = c.requires.open.«open»; may = (some, omega arith, omega arith) }
 
 pub returns-in-Err-clause-err : goal.returns-in-Err-clause-err
