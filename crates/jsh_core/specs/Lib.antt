@@ -5,5 +5,6 @@ pub mod Threads
 pub mod Runs
 pub mod Clients
 pub mod Step
+pub mod Causes
 pub mod History
 pub mod Stands

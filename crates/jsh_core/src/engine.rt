@@ -61,6 +61,7 @@ impl Core {
     ghost use Rattle.jsh_snippet.specs.declared.acts.Act.TheVariants as act;
     ghost use Rattle.jsh_core.specs.Step.{kept, step};
     ghost use Rattle.jsh_core.specs.Runs.{run_view};
+    ghost use Rattle.jsh_core.specs.Causes.{AnswerHasCause};
     ghost use Rattle.jsh_core.specs.History.{closed_at, source_bytes, state_of, Allows, IsLegal};
     ghost use Rattle.jsh_core.specs.Stands.{IsCutShort};
 
@@ -101,6 +102,7 @@ impl Core {
     ) -> Result<Reply, NoMemory>
         requires { Allows self.old entry }
         ensures reply { IfOk result (λ reply. reply ≡ (step (state_of self.old) entry).reply) }
+        ensures causes { IfOk result (λ reply. AnswerHasCause (state_of self.old) entry reply.body) }
         ensures history { IfOk result (λ reply. self.new ≡ self.old ++ kept entry reply ∷ []) }
         ensures err { OnErr result (IsCutShort self.old entry self.new) }
 
