@@ -30,7 +30,7 @@ use Rattle.jsh_core.specs.History.{Allows, MayDo, state_of}
 use Rattle.jsh_core.proofs.TurnLemmas.{further, turned-stuck, turned-suc, turned-zero}
 
 -- a further client, below the limit
-abbrev numbered_client : State → Stepped
+abbrev pub numbered_client : State → Stepped
 numbered_client s = record { state = record s { clients = s.clients ++ true ∷ [] }; reply = answer (body.Entered (length s.clients)) }
 
 enter-causes : (s : State) → CausesOfEnter s (enter s).reply.body

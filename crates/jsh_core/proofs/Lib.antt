@@ -3,6 +3,7 @@ pub mod ClientLemmas
 pub mod StandsLemmas
 pub mod TurnLemmas
 pub mod CauseLemmas
+pub mod FateLemmas
 pub mod WorldLemmas
 pub mod Evaluation
 pub mod Picking

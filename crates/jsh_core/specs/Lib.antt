@@ -6,5 +6,6 @@ pub mod Runs
 pub mod Clients
 pub mod Step
 pub mod Causes
+pub mod Fates
 pub mod History
 pub mod Stands

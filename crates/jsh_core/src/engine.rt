@@ -56,12 +56,14 @@ impl Model for Core {
 }
 
 impl Core {
-    ghost use Rattle.std.specs.Prelude.{◌≡◌, ◌∷◌, ◌++◌, [], length, slice_get, IfOk, IsOk, OnErr};
-    ghost use Rattle.std.specs.Option.{option_copied};
+    ghost use Rattle.std.specs.Prelude.{◌≡◌, ◌↔◌, ℕ, ◌∷◌, ◌++◌, [], length, slice_get, IfOk, IsOk, OnErr};
+    ghost use Rattle.std.specs.Option.{option_copied, option_map};
     ghost use Rattle.jsh_snippet.specs.declared.acts.Act.TheVariants as act;
+    ghost use Rattle.jsh_core.specs.declared.world.RunView.{RunView};
     ghost use Rattle.jsh_core.specs.Step.{kept, step};
     ghost use Rattle.jsh_core.specs.Runs.{run_view};
     ghost use Rattle.jsh_core.specs.Causes.{AnswerHasCause};
+    ghost use Rattle.jsh_core.specs.Fates.{HasRun};
     ghost use Rattle.jsh_core.specs.History.{closed_at, source_bytes, state_of, Allows, IsLegal};
     ghost use Rattle.jsh_core.specs.Stands.{IsCutShort};
 
@@ -288,6 +290,9 @@ impl Core {
     /// A run, or None where it was never made, was collected or was dropped.
     pub fn run(&self, run: u32) -> Option<RunView>
         ensures view { result ≡ run_view (state_of self.now) run }
+
+        // Whoever it is shown with made it, and has neither collected it nor left since.
+        ensures made { (owner : ℕ) → (option_map (λ (view : RunView). view.owner) result ≡ Some owner) ↔ HasRun self.now owner run }
     {
         view_run(&self.parts, run)
     }

@@ -1,0 +1,44 @@
+-- What becomes of runs in a history: they are made, and collected or dropped.
+use Rattle.std.specs.Prelude.{◌≡◌, ℕ, ◌⊎◌, List, [], ◌∷◌, Bool, true, false, Some}
+use Rattle.jsh_snippet.specs.declared.acts.Act.{Act}
+use Rattle.jsh_snippet.specs.declared.acts.Act.TheVariants as act
+use Rattle.jsh_snippet.specs.declared.acts.Entry.{Entry}
+use Rattle.jsh_snippet.specs.declared.replies.ReplyBody.{ReplyBody}
+use Rattle.jsh_snippet.specs.declared.replies.ReplyBody.TheVariants as body
+use Rattle.jsh_snippet.specs.declared.replies.Collected.TheVariants as «collected»
+use Rattle.jsh_core.specs.State.{State, opening}
+use Rattle.jsh_core.specs.Snippets.{run_of}
+use Rattle.jsh_core.specs.Step.{step}
+
+-- the reply hands out a run that is over
+abbrev pub is_over : ReplyBody → Bool
+is_over (body.Collected («collected».Over id name outcome)) = true
+is_over answered = false
+
+-- the entry is this client's, and its reply has this run
+abbrev pub Makes : State → Entry → ℕ → ℕ → Type 0
+Makes s entry owner number = (entry.client ≡ owner) × (run_of (step s entry).reply.body ≡ Some number)
+
+-- the entry is this client's, and is its leave or hands out this run
+abbrev pub TakesAway : State → Entry → ℕ → ℕ → Type 0
+TakesAway s entry owner number = (entry.client ≡ owner) × Takes entry.act number (step s entry).reply.body
+  where
+    Takes : Act → ℕ → ReplyBody → Type 0
+    Takes act.Leave number answered = Unit {0}
+    Takes (act.Collect run) number answered = (run ≡ number) × (is_over answered ≡ true)
+    Takes _ number answered = ⊥
+
+-- no entry takes the run away
+abbrev pub Stays : State → List Entry → ℕ → ℕ → Type 0
+Stays s [] owner number = Unit {0}
+Stays s (entry ∷ entries) owner number = (¬ TakesAway s entry owner number) × Stays (step s entry).state entries owner number
+
+-- an entry makes the run for this client, and none after it takes it away
+abbrev pub WasMade : State → List Entry → ℕ → ℕ → Type 0
+WasMade s [] owner number = ⊥
+WasMade s (entry ∷ entries) owner number =
+    (Makes s entry owner number × Stays (step s entry).state entries owner number) ⊎ WasMade (step s entry).state entries owner number
+
+-- a history has a run of this client with this number: it was made, and was neither collected nor dropped
+unfoldable pub HasRun : List Entry → ℕ → ℕ → Type 0
+HasRun history owner number = WasMade opening history owner number
