@@ -1,5 +1,5 @@
 -- What a step answers has its cause.
-use Rattle.std.proofs.Common.{◌≡◌, ◌≢◌, ℕ, zero, suc, ◌+◌, ◌<◌, ◌≤◌, ◌==◌, ◌⊎◌, inl, inr, Bool, true, false, List, [], ◌∷◌, ◌++◌, Option, None, Some, Result, Ok, Err, IfOk, length, refl, ap, sym, subst, ◌∙◌, arith, cond, not, nat_le, add-one}
+use Rattle.std.proofs.Common.{◌≡◌, ℕ, zero, suc, ◌+◌, ◌<◌, ◌≤◌, ◌==◌, ◌⊎◌, inl, inr, Bool, true, false, List, [], ◌∷◌, ◌++◌, Option, None, Some, Result, Ok, Err, IfOk, length, refl, ap, sym, subst, ◌∙◌, arith, cond, not, nat_le, add-one}
 use Rattle.std.specs.Option.{option_and_then}
 use Rattle.std.proofs.lemmas.Bool.{leb-true, leb-false, eqb-true, eqb-false, cases_order}
 use Rattle.jsh_tree.specs.declared.tree.Sum.{Sum}
@@ -9,18 +9,16 @@ use Rattle.jsh_snippet.specs.declared.acts.Act.TheVariants as act
 use Rattle.jsh_snippet.specs.declared.acts.Entry.{Entry}
 use Rattle.jsh_snippet.specs.declared.records.Record.{Record}
 use Rattle.jsh_snippet.specs.declared.replies.Reply.{Reply}
-use Rattle.jsh_snippet.specs.declared.replies.ReplyBody.{ReplyBody}
 use Rattle.jsh_snippet.specs.declared.replies.ReplyBody.TheVariants as body
 use Rattle.jsh_snippet.specs.declared.replies.Collected.TheVariants as «collected»
 use Rattle.jsh_snippet.specs.declared.replies.Outcome.TheVariants as outcome
 use Rattle.jsh_snippet.specs.declared.replies.Refusal.TheVariants as refusal
 use Rattle.jsh_snippet.specs.declared.replies.LimitKind.TheVariants as limit
-use Rattle.jsh_sum.specs.Sum.{Spells}
 use Rattle.jsh_sum.proofs.Found.{spelled_found}
 use Rattle.jsh_core.specs.declared.world.Run.{Run}
 use Rattle.jsh_core.specs.declared.world.RunView.{RunView}
 use Rattle.jsh_core.specs.State.{State, Stepped, World, answer, numbered, refuses}
-use Rattle.jsh_core.specs.Snippets.{accepted, accepted_reply, alive_count, judged, rejected, rejected_reply, run_of, submitted, temporary_name, verdict}
+use Rattle.jsh_core.specs.Snippets.{accepted, alive_count, judged, run_of, submitted, temporary_name, verdict}
 use Rattle.jsh_core.specs.Threads.{can_go_on, stepped, turn, turned, Turned}
 use Rattle.jsh_core.specs.Runs.{collect, collect_run, is_thread_alive, own_run, returned_text, run_view, standing, steps_so_far, view_of}
 use Rattle.jsh_core.specs.Clients.{enter}

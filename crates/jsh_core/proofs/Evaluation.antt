@@ -1,22 +1,18 @@
 -- The run of a snippet that was just accepted: it takes two steps, and is then over.
-use Rattle.std.proofs.Common.{◌≡◌, ◌≢◌, ℕ, zero, suc, ◌+◌, ◌-◌, ◌<◌, ◌≤◌, ◌==◌, Bool, true, false, List, [], ◌∷◌, ◌++◌, Option, None, Some, length, set, get_or, refl, ap, sym, subst, ◌∙◌, arith, cond, length-set, length-append, nat_le, eq-eqb}
+use Rattle.std.proofs.Common.{◌≡◌, ℕ, zero, suc, ◌+◌, ◌-◌, ◌<◌, ◌≤◌, ◌==◌, Bool, true, false, List, [], ◌∷◌, Option, None, Some, length, set, refl, ap, sym, subst, ◌∙◌, arith, cond, length-set, length-append, nat_le, eq-eqb}
 use Rattle.std.specs.List.{slice_get}
 use Rattle.std.specs.Option.{option_map_or}
 use Rattle.std.specs.Fmt.{signed_decimal}
-use Rattle.std.proofs.lemmas.Option.{slice_get_within}
 use Rattle.jsh_tree.specs.declared.tree.Tree.{Tree}
 use Rattle.jsh_tree.specs.declared.tree.Tree.TheVariants as tree
 use Rattle.jsh_tree.specs.declared.tree.Sum.{Sum}
-use Rattle.jsh_text.specs.declared.value.Value.{Value}
 use Rattle.jsh_text.specs.declared.value.Value.TheVariants as value
 use Rattle.jsh_snippet.specs.declared.records.Record.{Record}
-use Rattle.jsh_sched.specs.declared.ThreadState.{ThreadState}
 use Rattle.jsh_sched.specs.declared.ThreadState.TheVariants as thread_state
 use Rattle.jsh_sched.specs.ThreadState.{is_ready}
 use Rattle.jsh_core.specs.declared.world.Thread.{Thread}
 use Rattle.jsh_core.specs.declared.world.Frame.{Frame}
 use Rattle.jsh_core.specs.declared.world.Run.{Run}
-use Rattle.jsh_snippet.specs.declared.replies.ReplyBody.{ReplyBody}
 use Rattle.jsh_snippet.specs.declared.replies.ReplyBody.TheVariants as body
 use Rattle.jsh_snippet.specs.declared.replies.Collected.TheVariants as «collected»
 use Rattle.jsh_snippet.specs.declared.replies.Outcome.TheVariants as outcome
@@ -27,8 +23,8 @@ use Rattle.jsh_core.specs.State.{State, World, Stepped, numbered, refuses}
 use Rattle.jsh_core.specs.Snippets.{accepted, accepted_record, rejected, judged, submitted, verdict, alive_count, temporary_name, run_of}
 use Rattle.jsh_core.specs.Runs.{collect, collect_run, own_run}
 use Rattle.jsh_core.proofs.WorldLemmas.{numbered-push}
-use Rattle.jsh_core.specs.Threads.{can_go_on, stepped, turned, Turned, performed, tree_of, tree_value, next}
-use Rattle.jsh_core.specs.Threads.Next.{Sets, Returns}
+use Rattle.jsh_core.specs.Threads.{can_go_on, stepped, turned, performed, tree_of, tree_value}
+use Rattle.jsh_core.specs.Threads.Next.{Sets}
 use Rattle.jsh_core.proofs.TurnLemmas.{turned-zero, turned-suc, turned-stuck, further, stepped-returns}
 
 -- the new run of a client, whose main thread is the last one and has done nothing yet

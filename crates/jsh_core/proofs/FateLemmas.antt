@@ -1,8 +1,8 @@
 -- A run can be seen exactly where the history made it and hasn't taken it away.
-use Rattle.std.proofs.Common.{◌≡◌, ◌≢◌, ◌↔◌, ℕ, zero, suc, ◌+◌, ◌-◌, ◌<◌, ◌≤◌, ◌==◌, ◌⊎◌, inl, inr, Bool, true, false, List, [], ◌∷◌, ◌++◌, map, set, Option, None, Some, length, refl, ap, sym, subst, ◌∙◌, arith, cond, not, nat_le}
+use Rattle.std.proofs.Common.{◌≡◌, ◌≢◌, ◌↔◌, ℕ, zero, suc, ◌+◌, ◌-◌, ◌<◌, ◌==◌, ◌⊎◌, inl, inr, Bool, true, false, List, [], ◌∷◌, ◌++◌, map, set, Option, None, Some, length, refl, ap, sym, subst, ◌∙◌, arith, cond, not, nat_le}
 use Rattle.std.specs.List.{slice_get}
 use Rattle.std.specs.Option.{option_and_then, option_map}
-use Rattle.std.proofs.lemmas.Bool.{eqb-true, eqb-false, eq-eqb, cases_eq}
+use Rattle.std.proofs.lemmas.Bool.{eqb-true, eqb-false, cases_eq}
 use Rattle.jsh_tree.specs.declared.tree.Tree.{Tree}
 use Rattle.jsh_tree.specs.declared.tree.Sum.{Sum}
 use Rattle.jsh_snippet.specs.declared.acts.Act.{Act}
@@ -17,17 +17,17 @@ use Rattle.jsh_core.specs.declared.world.Frame.{Frame}
 use Rattle.jsh_core.specs.declared.world.Run.{Run}
 use Rattle.jsh_core.specs.declared.world.RunView.{RunView}
 use Rattle.jsh_core.specs.State.{State, Stepped, World, answer, numbered, opening, refuses}
-use Rattle.jsh_core.specs.Snippets.{accepted, alive_count, judged, rejected, run_of, submitted, verdict}
+use Rattle.jsh_core.specs.Snippets.{accepted, alive_count, judged, run_of, submitted, verdict}
 use Rattle.jsh_core.specs.Threads.{Next, body_step, can_go_on, frame_step, next, performed, stepped, thread_step, tree_of, turned, Turned}
 use Rattle.jsh_core.specs.Threads.Next.{Sets, Returns}
-use Rattle.jsh_core.specs.Runs.{collect, collect_run, dropped, handed_out, is_thread_alive, own_run, returned_text, run_view, standing, view_of}
+use Rattle.jsh_core.specs.Runs.{collect_run, dropped, handed_out, is_thread_alive, own_run, returned_text, run_view, standing, view_of}
 use Rattle.jsh_core.specs.Clients.{enter}
 use Rattle.jsh_core.specs.Step.{act_step, step}
 use Rattle.jsh_core.specs.Fates.{HasRun, Makes, Stays, TakesAway, WasMade, is_over}
 use Rattle.jsh_core.specs.History.{state_after, state_of}
 use Rattle.jsh_core.proofs.CauseLemmas.{numbered_client}
 use Rattle.jsh_core.proofs.TurnLemmas.{turned-stuck, turned-suc, turned-zero}
-use Rattle.jsh_core.proofs.WorldLemmas.{numbered-place, numbered-positive, numbered-push}
+use Rattle.jsh_core.proofs.WorldLemmas.{numbered-positive, numbered-push}
 use Rattle.jsh_core.proofs.Evaluation.{numbered-set}
 
 -- items by their numbers

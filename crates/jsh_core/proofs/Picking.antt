@@ -1,10 +1,9 @@
 -- The main thread of a run goes first where it is ready.
-use Rattle.std.proofs.Common.{◌≡◌, ℕ, ◌+◌, ◌-◌, ◌<◌, ◌==◌, Bool, true, false, List, Option, None, Some, length, refl, ap, sym, ◌∙◌, arith, cond, get_or}
+use Rattle.std.proofs.Common.{◌≡◌, ℕ, ◌+◌, ◌-◌, ◌<◌, true, List, Some, length, refl, ◌∙◌, arith, get_or}
 use Rattle.std.specs.List.{slice_get, find}
 use Rattle.std.proofs.lemmas.Option.{slice_get_within, get_or_from_slice_get}
 use Rattle.jsh_sched.specs.declared.ThreadState.{ThreadState}
 use Rattle.jsh_sched.specs.declared.ThreadState.TheVariants as thread_state
-use Rattle.jsh_sched.specs.ThreadState.{is_ready}
 use Rattle.jsh_sched.specs.Pick.{picked, ready_threads, is_main}
 use Rattle.jsh_sched.proofs.ReadyThreads.{find_main_at}
 use Rattle.jsh_core.specs.State.{numbered}
