@@ -1,6 +1,6 @@
 -- What stands at the front of a text is a front of it, and a token there spells its kind.
 use Rattle.std.proofs.Common.{◌≡◌, ℕ, ◌<◌, ◌==◌, ◌&&◌, Bool, true, false, not, cond, inl, inr, nat_lt, List, [], ◌∷◌, ◌++◌, length, take, drop, Option, Some, None, refl, sym, ap, ◌∙◌, append_assoc, arith}
-use Rattle.std.proofs.lemmas.Bool.{eqb-true, and_parts, and_from}
+use Rattle.std.proofs.lemmas.Bool.{eqb-true, and_parts, and_from, or_left, or_right}
 use Rattle.std.proofs.lemmas.List.{take-append-drop}
 use Rattle.std.proofs.lemmas.Bool.Decides.{nat_tests}
 use Rattle.std.specs.Char.{is_ascii_digit}
@@ -13,17 +13,19 @@ use Rattle.jsh_lex.specs.declared.lexeme.LexFault.TheVariants.{FloatNotHere}
 use Rattle.jsh_lex.specs.Chars.{is_white, is_in_line, is_line_end, is_identifier_start, is_identifier_part, take_while, begins, first_passes}
 use Rattle.jsh_lex.specs.Number.{integer, is_float}
 use Rattle.jsh_lex.specs.Literal.{behind_quote, content, escapes_next, string, character}
-use Rattle.jsh_lex.specs.Table.{operator, operators, operator_in}
+use Rattle.jsh_lex.specs.Table.{operator, operators, operator_in, longer_stand_first, operators_in_order}
 use Rattle.jsh_lex.specs.Lexis.{Front, front, word, number, word_chars, word_bytes, behind_word, behind_comment, closed_comment, closed_literal}
 use Rattle.jsh_lex.specs.Spelling.{Spells, a_word, a_number, a_string, a_character, an_operator, is_content, Lists}
+use Rattle.jsh_lex.proofs.Longest.{NoLonger, NotEarlier, begins_split, not_earlier_later, no_longer_run, no_longer_string, no_longer_character, no_longer_operator}
 use Rattle.jsh_lex.proofs.Texts.{take_drop_while, word_split, quote_split}
 
--- a front of the text, which has characters and spells the kind
+-- a front of the text, which has characters and spells the kind, and that no longer front spells any
 pub record Read (kind : TokenKind) (cs rest : List ℕ) : Type 0 where
   pub s : List ℕ
   pub parts : cs ≡ s ++ rest
   pub spells : Spells kind s
   pub some : 0 < length s
+  pub longest : NoLonger s rest
 
 abbrev pub ExplainsAs : Lexeme → List ℕ → List ℕ → Type 0
 ExplainsAs Gap cs rest = (s : List ℕ) × (cs ≡ s ++ rest)
@@ -57,6 +59,7 @@ word_explained c cs h =
         parts = word_split (c ∷ cs);
         spells = a_word (and_from (is_identifier_start c) (list_all is_identifier_part (take_while is_identifier_part cs)) h (all_taken is_identifier_part cs)) refl;
         some = omega arith;
+        longest = no_longer_run c cs (or_left (is_identifier_start c) (is_ascii_digit c) h);
       };
     }
 
@@ -68,6 +71,7 @@ integer_explained c cs h (Spelled kind) e =
       parts = word_split (c ∷ cs);
       spells = a_number (and_from (is_ascii_digit c) (list_all is_identifier_part (take_while is_identifier_part cs)) h (all_taken is_identifier_part cs)) e;
       some = omega arith;
+      longest = no_longer_run c cs (or_right (is_identifier_start c) (is_ascii_digit c) h);
     }
 integer_explained c cs h (Wrong fault) e = tt
 
@@ -138,6 +142,7 @@ string_explained c cs (Some rest) (Spelled kind) same e is =
         parts = literal_parts 34 c cs rest same e;
         spells = a_string (content 34 false cs) refl (content_holds 34 false cs rest e) is;
         some = omega arith;
+        longest = no_longer_string cs rest e;
       };
     }
 string_explained c cs (Some rest) (Wrong fault) same e is = record { holds = tt }
@@ -152,26 +157,12 @@ character_explained c cs (Some rest) (Spelled kind) same e is =
         parts = literal_parts 39 c cs rest same e;
         spells = a_character (content 39 false cs) refl (content_holds 39 false cs rest e) is;
         some = omega arith;
+        longest = no_longer_character cs rest e;
       };
     }
 character_explained c cs (Some rest) (Wrong fault) same e is = record { holds = tt }
 
 -- ---- operators
-
-begins_split : (s cs : List ℕ) → begins s cs ≡ true → cs ≡ s ++ drop (length s) cs
-begins_split [] cs h = refl
-begins_split (x ∷ s) [] h = cc
-begins_split (x ∷ s) (c ∷ cs) h =
-    let both = and_parts (c == x) (begins s cs) h in
-    ap (λ (y : ℕ). y ∷ cs) (eqb-true c x both.0) ∙ ap (λ (xs : List ℕ). x ∷ xs) (begins_split s cs both.1)
-
-found_in : (entries : List (List ℕ × TokenKind)) (cs : List ℕ) → ((s : List ℕ) (kind : TokenKind) → Lists entries s kind → Spells kind s × (0 < length s)) → Explains cs (operator_in entries cs)
-found_in [] cs f = record { holds = tt }
-found_in (entry ∷ entries) cs f =
-    choose (begins entry.0 cs) cs (Spelled entry.1, drop (length entry.0) cs) (operator_in entries cs)
-    (λ h. let is = f entry.0 entry.1 (inl (refl, refl)) in
-    record { holds = record { s = entry.0; parts = begins_split entry.0 cs h; spells = is.0; some = is.1 } })
-    (found_in entries cs (λ s kind l. f s kind (inr l)))
 
 listed_some : (entries : List (List ℕ × TokenKind)) → list_all (λ entry. nat_lt 0 (length entry.0)) entries ≡ true → (s : List ℕ) (kind : TokenKind) → Lists entries s kind → 0 < length s
 listed_some [] h s kind l = absurd l
@@ -181,9 +172,32 @@ listed_some (entry ∷ entries) h s kind (inl l) =
 listed_some (entry ∷ entries) h s kind (inr l) =
     listed_some entries (and_parts (nat_lt 0 (length entry.0)) (list_all (λ entry. nat_lt 0 (length entry.0)) entries) h).1 s kind l
 
+operator_read : (entry : List ℕ × TokenKind) (entries : List (List ℕ × TokenKind)) (cs : List ℕ) → Lists operators entry.0 entry.1 → longer_stand_first (entry ∷ entries) ≡ true
+    → NotEarlier (entry ∷ entries) cs → begins entry.0 cs ≡ true → Read entry.1 cs (drop (length entry.0) cs)
+operator_read entry entries cs l order left h =
+    record {
+      s = entry.0;
+      parts = begins_split entry.0 cs h;
+      spells = an_operator l;
+      some = listed_some operators refl entry.0 entry.1 l;
+      longest = no_longer_operator entry.0 entry.1 entries cs (drop (length entry.0) cs) order left (begins_split entry.0 cs h) l;
+    }
+
+found_in : (entries : List (List ℕ × TokenKind)) (cs : List ℕ) → ((s : List ℕ) (kind : TokenKind) → Lists entries s kind → Lists operators s kind)
+    → longer_stand_first entries ≡ true → NotEarlier entries cs → Explains cs (operator_in entries cs)
+found_in [] cs listed order left = record { holds = tt }
+found_in (entry ∷ entries) cs listed order left =
+    let go : (b : Bool) → begins entry.0 cs ≡ b → Explains cs (cond b (Spelled entry.1, drop (length entry.0) cs) (operator_in entries cs))
+    = λ b. elim b as (λ v. begins entry.0 cs ≡ v → Explains cs (cond v (Spelled entry.1, drop (length entry.0) cs) (operator_in entries cs))) [
+      | true ↦ λ h. record { holds = operator_read entry entries cs (listed entry.0 entry.1 (inl (refl, refl))) order left h }
+      | false ↦ λ h. found_in entries cs (λ s kind l. listed s kind (inr l))
+          (and_parts (list_all (λ later. not (begins entry.0 later.0)) entries) (longer_stand_first entries) order).1 (not_earlier_later entry entries cs left h)
+    ] in
+    go (begins entry.0 cs) refl
+
 operator_explained : (cs : List ℕ) → Explains cs (operator cs)
 unfolding operator
-operator_explained cs = found_in operators cs (λ s kind l. (an_operator l, listed_some operators refl s kind l))
+operator_explained cs = found_in operators cs (λ s kind l. l) operators_in_order (λ s kind l. inl l)
 
 -- ---- all of them
 

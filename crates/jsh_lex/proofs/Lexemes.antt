@@ -24,7 +24,7 @@ width-chars bytes u = ap length (encodes-chars bytes u)
 place-chars : (text rest : List ℕ) → IsUtf8 text → IsUtf8 rest → place (chars text) (chars rest) ≡ length text - length rest
 place-chars text rest t r = ap (λ n. n - width (chars rest)) (width-chars text t) ∙ ap (λ n. length text - n) (width-chars rest r)
 
-some_chars : (cs bytes : List ℕ) → encode_utf8_all cs ≡ bytes → 0 < length bytes → 0 < length cs
+pub some_chars : (cs bytes : List ℕ) → encode_utf8_all cs ≡ bytes → 0 < length bytes → 0 < length cs
 some_chars [] bytes e h = absurd (omega (arith, ap length e))
 some_chars (c ∷ cs) bytes e h = omega arith
 

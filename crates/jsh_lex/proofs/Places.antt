@@ -1,9 +1,13 @@
 -- Where the tokens of a text stand.
-use Rattle.std.proofs.Common.{◌≡◌, ℕ, zero, suc, ◌+◌, ◌-◌, ◌<◌, ◌≤◌, ◌&&◌, true, List, [], ◌∷◌, ◌++◌, length, take, drop, refl, sym, ap, subst, ◌∙◌, append_assoc, length-append, arith}
-use Rattle.std.proofs.Math.Seq.{take-append_seam, drop-append_seam}
+use Rattle.std.proofs.Common.{◌≡◌, ℕ, zero, suc, ◌+◌, ◌-◌, ◌<◌, ◌≤◌, ◌&&◌, true, List, [], ◌∷◌, ◌++◌, length, take, drop, refl, sym, ap, subst, ◌∙◌, append_assoc, length-append, length-drop, arith}
+use Rattle.std.proofs.Math.Seq.{take-add, take-append_seam, drop-append_seam}
 use Rattle.std.proofs.Math.Utf8.{scalars, scalar}
 use Rattle.std.proofs.lemmas.Bool.{and_parts}
-use Rattle.std.proofs.lemmas.Str.{encodes-chars, encodes-append, chars-encodes, scalars-chars, length-le-encodes, IsCharBoundary-at_seam}
+use Rattle.std.proofs.lemmas.List.{drop-drop, length-take}
+use Rattle.std.proofs.lemmas.List.Elements.{All-nil, All-cons}
+use Rattle.std.proofs.lemmas.List.Folds.{drop_split}
+use Rattle.std.proofs.lemmas.Str.{encodes-chars, encodes-append, chars-append, chars-encodes, scalars-chars, length-le-encodes, IsCharBoundary-at_seam, IsUtf8-between}
+use Rattle.std.specs.List.{All}
 use Rattle.std.specs.Prelude.{encode_utf8_all, slice_range}
 use Rattle.std.specs.Str.{chars, IsUtf8, IsCharBoundary}
 use Rattle.jsh_tree.specs.declared.token.TokenKind.{TokenKind}
@@ -11,8 +15,10 @@ use Rattle.jsh_lex.specs.declared.lexeme.Lexeme.{Lexeme}
 use Rattle.jsh_lex.specs.declared.lexeme.Lexeme.TheVariants.{Gap, Spelled, Wrong}
 use Rattle.jsh_lex.specs.Chars.{width}
 use Rattle.jsh_lex.specs.Lexis.{front, lexed, add_lexeme, place, tokens}
-use Rattle.jsh_lex.specs.Spelling.{Spells, IsTokenBehind, AreTokensBehind}
+use Rattle.jsh_lex.specs.Spelling.{Spells, IsTokenBehind, AreTokensBehind, IsLongest}
 use Rattle.jsh_lex.proofs.Explained.{ExplainsAs, explained}
+use Rattle.jsh_lex.proofs.Lexemes.{some_chars}
+use Rattle.jsh_lex.proofs.Longest.{NoLonger}
 
 right_scalars : (xs ys : List ℕ) → scalars (xs ++ ys) ≡ true → scalars ys ≡ true
 right_scalars [] ys h = h
@@ -78,6 +84,41 @@ token_stands bytes xs cs s rest kind end e spells some c behind =
           (sym (ap (λ n. chars (slice_range bytes n (place (chars bytes) rest))) from ∙ (ap (λ n. chars (slice_range bytes (width xs) n)) to ∙ between bytes xs s rest c'))) spells;
     }
 
+-- a part of a list in two
+part_split : (bytes : List ℕ) (from mid end : ℕ) → from ≤ mid → mid ≤ end → slice_range bytes from end ≡ slice_range bytes from mid ++ slice_range bytes mid end
+part_split bytes from mid end a b =
+    let n : end - from ≡ (mid - from) + (end - mid) = omega arith in
+    let at : from + (mid - from) ≡ mid = omega arith in
+    ap (λ k. take k (drop from bytes)) n ∙ (take-add (mid - from) (end - mid) (drop from bytes)
+    ∙ ap (λ (ys : List ℕ). take (mid - from) (drop from bytes) ++ take (end - mid) ys) (drop-drop (mid - from) from bytes ∙ ap (λ k. drop k bytes) at))
+
+token_longest : (bytes xs cs s rest : List ℕ) (kind : TokenKind) → cs ≡ s ++ rest → NoLonger s rest → Cut bytes xs cs
+    → IsLongest bytes (record { kind = kind; span = record { from = place (chars bytes) cs; to = place (chars bytes) rest } })
+token_longest bytes xs cs s rest kind e longest c other end longer boundary spells =
+    let c' : Cut bytes xs (s ++ rest) = record { parts = c.parts ∙ ap (λ (ys : List ℕ). xs ++ ys) e; utf8 = c.utf8 } in
+    let later = cut_later bytes xs cs s rest e c in
+    let from : place (chars bytes) cs ≡ width xs = omega (arith, sum_of_widths bytes xs cs c) in
+    let to : place (chars bytes) rest ≡ width xs + width s = omega (arith, sum_of_widths bytes (xs ++ s) rest later, width-append xs s) in
+    let mid : ℕ = width xs + width s in
+    let after : mid < end = omega (arith, to) in
+    let at_from : IsCharBoundary bytes (width xs) = boundary_at bytes xs cs c in
+    let at_mid : IsCharBoundary bytes mid = subst (λ (n : ℕ). IsCharBoundary bytes n) (width-append xs s) (boundary_at bytes (xs ++ s) rest later) in
+    let u1 : IsUtf8 (slice_range bytes (width xs) mid) = IsUtf8-between bytes (width xs) mid c.utf8 (omega arith) at_from at_mid in
+    let u2 : IsUtf8 (slice_range bytes mid end) = IsUtf8-between bytes mid end c.utf8 (omega arith) at_mid boundary in
+    let more = chars (slice_range bytes mid end) in
+    let tail = chars (drop end bytes) in
+    let joined : chars (slice_range bytes (place (chars bytes) cs) end) ≡ s ++ more =
+    ap (λ n. chars (slice_range bytes n end)) from ∙ (ap chars (part_split bytes (width xs) mid end (omega arith) (omega arith))
+    ∙ (chars-append (slice_range bytes (width xs) mid) (slice_range bytes mid end) u1 ∙ ap (λ (ys : List ℕ). ys ++ more) (between bytes xs s rest c'))) in
+    let behind : drop mid bytes ≡ encode_utf8_all rest =
+    ap (λ n. drop n bytes) (sym (width-append xs s)) ∙ (ap (drop (width (xs ++ s))) (whole_bytes bytes (xs ++ s) rest later) ∙ drop-append_seam (encode_utf8_all (xs ++ s)) (encode_utf8_all rest)) in
+    let rest_chars : chars (drop mid bytes) ≡ rest =
+    ap chars behind ∙ chars-encodes rest (right_scalars (xs ++ s) rest (ap scalars (sym later.parts) ∙ scalars-chars bytes c.utf8)) in
+    let parts : rest ≡ more ++ tail =
+    sym rest_chars ∙ (ap chars (drop_split bytes mid end (omega arith)) ∙ chars-append (slice_range bytes mid end) (drop end bytes) u2) in
+    let size : 0 < length (slice_range bytes mid end) = omega (arith, boundary.0, length-take (end - mid) (drop mid bytes), length-drop mid bytes) in
+    longest other more tail parts (some_chars more (slice_range bytes mid end) (encodes-chars (slice_range bytes mid end) u2) size) (subst (λ (ys : List ℕ). Spells other ys) joined spells)
+
 -- the tokens of a rest, behind a place in front of it
 rest_stands : (n : ℕ) (bytes xs cs : List ℕ) (end : ℕ) → Cut bytes xs cs → end ≤ width xs → AreTokensBehind bytes end (lexed n (chars bytes) cs).tokens
 rest_stands zero bytes xs [] end c h = tt
@@ -101,3 +142,25 @@ rest_stands (suc n) bytes xs (d ∷ cs) end c h =
 pub tokens_stand : (bytes : List ℕ) → IsUtf8 bytes → AreTokensBehind bytes 0 (tokens bytes).tokens
 unfolding tokens
 tokens_stand bytes u = rest_stands (length bytes) bytes [] (chars bytes) 0 (record { parts = refl; utf8 = u }) (omega arith)
+
+rest_longest : (n : ℕ) (bytes xs cs : List ℕ) → Cut bytes xs cs → All (IsLongest bytes) (lexed n (chars bytes) cs).tokens
+rest_longest zero bytes xs [] c = All-nil (IsLongest bytes)
+rest_longest zero bytes xs (d ∷ cs) c = All-nil (IsLongest bytes)
+rest_longest (suc n) bytes xs [] c = All-nil (IsLongest bytes)
+rest_longest (suc n) bytes xs (d ∷ cs) c =
+    let go : (l : Lexeme) (rest : List ℕ) → ExplainsAs l (d ∷ cs) rest
+    → All (IsLongest bytes) (add_lexeme l (place (chars bytes) (d ∷ cs)) (place (chars bytes) rest) (lexed n (chars bytes) rest)).tokens
+    = λ l. elim l as (λ v. (rest : List ℕ) → ExplainsAs v (d ∷ cs) rest
+    → All (IsLongest bytes) (add_lexeme v (place (chars bytes) (d ∷ cs)) (place (chars bytes) rest) (lexed n (chars bytes) rest)).tokens) [
+      | Gap ↦ λ rest x. rest_longest n bytes (xs ++ x.0) rest (cut_later bytes xs (d ∷ cs) x.0 rest x.1 c)
+      | Spelled kind ↦ λ rest x.
+          All-cons (IsLongest bytes) _ (lexed n (chars bytes) rest).tokens
+          (token_longest bytes xs (d ∷ cs) x.s rest kind x.parts x.longest c)
+          (rest_longest n bytes (xs ++ x.s) rest (cut_later bytes xs (d ∷ cs) x.s rest x.parts c))
+      | Wrong fault ↦ λ rest x. All-nil (IsLongest bytes)
+    ] in
+    go (front (d ∷ cs)).0 (front (d ∷ cs)).1 (explained (d ∷ cs)).holds
+
+pub tokens_longest : (bytes : List ℕ) → IsUtf8 bytes → All (IsLongest bytes) (tokens bytes).tokens
+unfolding tokens
+tokens_longest bytes u = rest_longest (length bytes) bytes [] (chars bytes) (record { parts = refl; utf8 = u })

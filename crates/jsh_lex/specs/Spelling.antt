@@ -52,3 +52,8 @@ pub record IsTokenBehind (text : List ℕ) (end : ℕ) (t : Token) : Type 0 wher
 abbrev pub AreTokensBehind : List ℕ → ℕ → List Token → Type 0
 AreTokensBehind text end [] = Unit {0}
 AreTokensBehind text end (t ∷ ts) = IsTokenBehind text end t × AreTokensBehind text t.span.to ts
+
+-- no spelling of any kind begins where the token does and ends behind it, at the end of a character
+abbrev pub IsLongest : List ℕ → Token → Type 0
+IsLongest text t =
+    (kind : TokenKind) (end : ℕ) → t.span.to < end → IsCharBoundary text end → Spells kind (chars (slice_range text t.span.from end)) → ⊥

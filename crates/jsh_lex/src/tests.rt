@@ -371,7 +371,7 @@ fn floats_are_cut(rt: HostRuntime) -> Result<(), Fail> {
     check_all(&rt, rt.alloc(), &FLOATS)
 }
 
-const LITERALS: [Row; 23] = [
+const LITERALS: [Row; 24] = [
     ("'a'", &[TokenKind::CharLiteral], None),
     ("''", &[], Some((LexFault::BadCharLiteral, 0))),
     ("'ab'", &[], Some((LexFault::BadCharLiteral, 0))),
@@ -394,6 +394,7 @@ const LITERALS: [Row; 23] = [
         &[TokenKind::StringLiteral],
         None,
     ),
+    ("\"\\s\"", &[TokenKind::StringLiteral], None),
     ("\"\\400\"", &[TokenKind::StringLiteral], None),
     ("\"\\q\"", &[], Some((LexFault::BadEscape, 0))),
     (

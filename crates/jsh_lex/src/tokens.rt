@@ -1,9 +1,10 @@
 ghost use Rattle.std.specs.Prelude.{◌≡◌, ◌<◌, ◌≤◌, ◌-◌, ◌^◌, ◌∷◌, length, IfOk, IfErr};
 ghost use Rattle.std.specs.Str.{chars};
 ghost use Rattle.std.specs.Char.{is_ascii_digit};
+ghost use Rattle.std.specs.List.{All};
 ghost use Rattle.jsh_lex.specs.Chars.{first_passes};
 ghost use Rattle.jsh_lex.specs.Lexis as spec;
-ghost use Rattle.jsh_lex.specs.Spelling.{AreTokensBehind};
+ghost use Rattle.jsh_lex.specs.Spelling.{AreTokensBehind, IsLongest};
 
 use crate::chars::{
     behind_comment, behind_line, behind_white, is_identifier_start, is_white, no_text, split_first,
@@ -124,6 +125,8 @@ pub fn lex(alloc: Global, text: &str) -> Result<Vec<Token>, LexError>
     requires { length text.now < 2 ^ 32 }
     // Each token of the text spells its kind, and they stand in order, between characters.
     ensures spelled { AreTokensBehind text.now 0 (spec.tokens text.now).tokens }
+    // No longer spelling begins where one of them does.
+    ensures longest { All (IsLongest text.now) (spec.tokens text.now).tokens }
     ensures tokens { IfOk result (λ v. spec.tokens text.now ≡ spec.whole v.items) }
     ensures fault { IfErr result (spec.IsFaultOf text.now) }
 {

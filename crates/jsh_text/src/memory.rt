@@ -4,7 +4,8 @@ use std::alloc::{AllocError, AllocFailed};
 use std::error::Error;
 use std::fmt;
 
-/// Want of memory. Any call that may allocate can answer it, and nothing else has this name.
+/// Want of memory, where that is all that can go wrong. Any call that may allocate can answer it. An
+/// error with further causes, as that of the lexis, has a variant of the same name.
 #[derive(Clone, Copy, Debug, PartialEq, Eq)]
 pub struct NoMemory;
 

@@ -4,7 +4,7 @@ use Rattle.std.specs.Str.{IsUtf8}
 use Rattle.jsh_tree.specs.declared.token.Token.{Token}
 use Rattle.jsh_lex.specs.Lexis.{Lexed}
 use Rattle.jsh_lex.proofs.Lexemes.{Left, left_at_first, left_behind_gap, left_behind_token, left_at_fault, left_at_end}
-use Rattle.jsh_lex.proofs.Places.{tokens_stand}
+use Rattle.jsh_lex.proofs.Places.{tokens_stand, tokens_longest}
 use Rattle.jsh_lex.proofs.tokens.lex.Goals as goal
 
 pub loop-rest-init : goal.loop-rest-init
@@ -62,3 +62,12 @@ returns-in-Wrong-clause-spelled c = tokens_stand c.args.text.now c.utf8.text
 
 pub returns-clause-spelled : goal.returns-clause-spelled
 returns-clause-spelled c = tokens_stand c.args.text.now c.utf8.text
+
+pub returns-in_err-push-in-Spelled-clause-longest : goal.returns-in_err-push-in-Spelled-clause-longest
+returns-in_err-push-in-Spelled-clause-longest c = tokens_longest c.args.text.now c.utf8.text
+
+pub returns-in-Wrong-clause-longest : goal.returns-in-Wrong-clause-longest
+returns-in-Wrong-clause-longest c = tokens_longest c.args.text.now c.utf8.text
+
+pub returns-clause-longest : goal.returns-clause-longest
+returns-clause-longest c = tokens_longest c.args.text.now c.utf8.text
