@@ -5,20 +5,36 @@
 //! a tree of them has no address in its value, and `≡` compares it with what a definition gives.
 #![tactic(auto)]
 
+mod boxed;
+mod declaration;
 mod diagnostic;
+mod expression;
 mod key;
 mod modifier;
 mod name;
 mod seq;
 mod source;
+mod statement;
 mod token;
 mod tree;
 
+pub use boxed::Boxed;
+pub use declaration::{
+    ClassDeclaration, ConstructorCall, ConstructorDeclaration, FieldDeclaration, Import,
+    InterfaceDeclaration, MemberDeclaration, MethodDeclaration, ModifierUse, Parameter,
+};
 pub use diagnostic::{Code, Diagnostic};
+pub use expression::{
+    BinaryOperator, Expr, Identifier, Initial, Literal, Operation, PathPart, PostfixOperator,
+    TypeUse, UnaryOperator,
+};
 pub use key::{Field, Header, Key, Link, Signature};
 pub use modifier::Modifier;
 pub use name::{Name, TypeWritten};
 pub use seq::Seq;
 pub use source::SrcText;
+pub use statement::{
+    Block, BlockStatement, CatchClause, ForStart, Stmt, SwitchGroup, SwitchLabel, Variable,
+};
 pub use token::{Span, Token, TokenKind};
 pub use tree::{AdditiveOperator, Part, Sum, Tree};

@@ -54,6 +54,11 @@ impl<T> Seq<T> {
         self.items.as_slice()
     }
 
+    /// Where its memory is from.
+    pub fn allocator(&self) -> Global {
+        *self.items.allocator()
+    }
+
     pub fn len(&self) -> usize
         ensures { result ≡ length self.now }
     {
