@@ -1,8 +1,7 @@
 ghost use Rattle.std.specs.Prelude.{◌≡◌, IfOk};
 
 use super::*;
-use crate::{Name, SrcText, TypeWritten};
-use sqlite_items::Boxed;
+use crate::{Boxed, Name, SrcText, TypeWritten};
 use std::test::Fail;
 
 /// Leads back to itself through a list and a box, as a tree of the language does.
