@@ -369,7 +369,7 @@ framed-one b journal is began = record {
 pub framed-none : (journal : List Entry) → journal ≡ entry_of 0 act.Close ∷ [] → IsFramed 0 journal
 framed-none journal is = record { middle = []; whole = is; theirs = All-nil (λ (e : Entry). (0 < e.client) × (e.client ≤ 0)) }
 
--- the only client, or none, and the status of the call with its cause in that client's streams
+-- the status of a call, with its cause in a client's streams
 abbrev pub Causes : ℕ → Type 0 → Type 0 → Type 0
 Causes status failed_read failed_write = (status ≡ 0) ⊎ ((status ≡ 3) × failed_read) ⊎ ((status ≡ 4) × failed_write) ⊎ (status ≡ 5) ⊎ (status ≡ 6)
 

@@ -200,7 +200,7 @@ pub fn run<R: Threads + Wait + Sync, D: Desk, G: Gate>(
         × (words.now ≡ [] → result.status ≡ 3) × (words.now ≢ [] → result.status ≡ 2))
         ⊎ (result.status ≡ 5) }
 
-    // Refused words: the usage line is written, and nothing else is done.
+    // Refused words: the usage line is written, and nothing is journalled.
     ensures refused { words.now ≢ [] → result.journal.items ≡ [] }
     ensures refused_status { words.now ≢ [] → (result.status ≡ 2) ⊎ (result.status ≡ 5) }
     ensures accepted_status { words.now ≡ [] → result.status ≢ 2 }
