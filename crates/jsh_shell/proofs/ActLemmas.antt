@@ -71,6 +71,7 @@ pub advances-as-halt : {client : ℕ} {before after : List Entry} {held now : Op
 advances-as-halt {client = client} {before = before} {held = held} a limit phase here = record {
   entries = a.entries;
   grows = a.grows;
+  own = a.own;
   follows = a.follows;
   count = length (transcript_after client (state_of before) a.entries);
   written = a.written ∙ ap (append_known held) (sym (take-length (transcript_after client (state_of before) a.entries)));
@@ -83,18 +84,19 @@ advances-as-halt {client = client} {before = before} {held = held} a limit phase
 -- what follows a snippet that was handed in, by whether it has a run
 pub handed-in : (client : ℕ) (history after : List Entry) (text : List ℕ) (p : Progress) (more : List Command) (run : Option ℕ) → IsOpen client history →
     after ≡ history ++ by client (act.Submit text) ∷ [] → IsBetween (state_of history) (Eval text ∷ more) p →
-    run_of (submitted (state_of history) client text).reply.body ≡ run →
+    run_of (submitted (state_of history) client text).reply.body ≡ run → is_limit (submitted (state_of history) client text).reply.body ≡ false →
     IsHandedIn (state_of after) client run more (behind_submit p more (submitted (state_of history) client text).reply.body)
-handed-in client history after text p more None o grows b e =
+handed-in client history after text p more None o grows b e free =
     let a : IsAnswered (state_of history) client (submitted (state_of history) client text) = submitted-answered (state_of history) client text o.states in
     let few : p.last_turn ≤ length (submitted (state_of history) client text).state.world.threads = omega (arith, b.last_turn, a.grows) in
     record {
       phase = ap phase_after e;
       left = refl;
+      limited = free;
       has_left = b.has_left;
       last_turn = subst (λ (s : State). p.last_turn ≤ length s.world.threads) (sym (state_of-push history after (by client (act.Submit text)) grows)) few;
     }
-handed-in client history after text p more (Some run) o grows b e =
+handed-in client history after text p more (Some run) o grows b e free =
     let a : IsAnswered (state_of history) client (submitted (state_of history) client text) = submitted-answered (state_of history) client text o.states in
     let newer : length (state_of history).world.threads < length (submitted (state_of history) client text).state.world.threads = a.newer run e in
     let few : p.last_turn < length (submitted (state_of history) client text).state.world.threads = omega (arith, b.last_turn, newer) in
@@ -118,12 +120,13 @@ advances-submit client history after held now text reply p more shows b = advanc
 
 -- a snippet that was handed in and answered
 pub hands-in : (client : ℕ) (history after : List Entry) (held now : Option (List ℕ)) (text : List ℕ) (reply : Reply) → IsOpen client history →
-    Shows history after (by client (act.Submit text)) reply held now → HandsIn client history after held now text (run_of reply.body)
-hands-in client history after held now text reply o shows = record {
+    Shows history after (by client (act.Submit text)) reply held now → is_limit reply.body ≡ false → HandsIn client history after held now text (run_of reply.body)
+hands-in client history after held now text reply o shows free = record {
   each = λ p more b. (
     behind_submit p more (submitted (state_of history) client text).reply.body,
     advances-submit client history after held now text reply p more shows b,
-    handed-in client history after text p more (run_of reply.body) o shows.grows b (ap (λ (r : Reply). run_of r.body) (sym shows.reply)),
+    handed-in client history after text p more (run_of reply.body) o shows.grows b (ap (λ (r : Reply). run_of r.body) (sym shows.reply))
+        (ap (λ (r : Reply). is_limit r.body) (sym shows.reply) ∙ free),
   );
 }
 
@@ -343,6 +346,7 @@ hands-out client run history after held now reply shows = record {
         record {
           phase = refl;
           left = t.left;
+          limited = ap is_limit (collect-over (state_of history) client run t.main t.snippet t.thread t.text t.run_is t.thread_is t.returned);
           has_left = t.has_left;
           last_turn = subst (λ (s : State). p.last_turn ≤ length s.world.threads) (sym (state_of-push history after (by client (act.Collect run)) shows.grows))
               (subst (λ ts. p.last_turn ≤ length ts) (sym k.threads) t.last_turn);

@@ -1,5 +1,5 @@
 -- How the pieces that are read are served.
-use Rattle.std.proofs.Common.{◌≡◌, ℕ, ◌+◌, ◌≤◌, true, false, List, [], ◌∷◌, ◌++◌, Option, IfSome, length, refl, ap, sym, subst, ◌∙◌, arith, append-nil, length-append, inl, inr}
+use Rattle.std.proofs.Common.{◌≡◌, ℕ, ◌+◌, ◌<◌, ◌≤◌, true, false, List, [], ◌∷◌, ◌++◌, Option, IfSome, length, refl, ap, sym, subst, ◌∙◌, arith, append-nil, length-append, inl, inr}
 use Rattle.std.specs.Io.KnownBytes.{prepend_known}
 use Rattle.jsh_io.proofs.Known.{prepend_known-prepend_known, prepend_known-nil}
 use Rattle.jsh_snippet.specs.declared.acts.Entry.{Entry}
@@ -7,6 +7,7 @@ use Rattle.jsh_lines.specs.Lines.{Command, Cut, cut, evals, commands}
 use Rattle.jsh_lines.proofs.Cuts.{cut-append, cut-rest}
 use Rattle.jsh_lines.proofs.Commands.{evals-append}
 use Rattle.jsh_shell.specs.declared.halts.Halt.{Halt}
+use Rattle.jsh_shell.specs.declared.halts.Halt.TheVariants as halt
 use Rattle.jsh_shell.specs.Budget.{most_input}
 use Rattle.jsh_shell.specs.Serving.{Serves, ServesPart, IsServedBy, status_of}
 use Rattle.jsh_shell.proofs.ServeLemmas.{serves-nothing, serves-append, serves-part-append}
@@ -48,21 +49,21 @@ reading-more client a b c left0 left1 left2 x y z rest piece next total now r re
 }
 
 -- a read failed
-pub served-failed : (client : ℕ) (a b : List Entry) (left0 left1 left2 x y : Option (List ℕ)) (rest : List ℕ) (total : ℕ) → IsReading client a b left0 left1 x y rest total → left2 ≡ left1 → total ≤ most_input →
-    IsServedBy client 3 a b left0 left2 x y
-served-failed client a b left0 left1 left2 x y rest total r same few = record {
+pub served-failed : (failed_read failed_write : Type 0) (client : ℕ) (a b : List Entry) (left0 left1 left2 x y : Option (List ℕ)) (rest : List ℕ) (total : ℕ) → IsReading client a b left0 left1 x y rest total → left2 ≡ left1 → total < most_input → failed_read →
+    IsServedBy client 3 a b left0 left2 x y failed_read failed_write
+served-failed failed_read failed_write client a b left0 left1 left2 x y rest total r same less failed = record {
   read = r.read;
   ended = false;
   reads = r.reads ∙ ap (prepend_known r.read) (sym same);
   all_read = λ e. cc;
-  few = subst (λ n. n ≤ most_input) (sym r.count) few;
-  outcome = inr (inl (refl, refl, subst (λ (cs : List Command). Serves client a b x y cs) (sym (whole_commands r.read)) r.serves));
+  few = omega (arith, r.count, less);
+  outcome = inr (inl (refl, refl, subst (λ n. n < most_input) (sym r.count) less, failed, subst (λ (cs : List Command). Serves client a b x y cs) (sym (whole_commands r.read)) r.serves));
 }
 
 -- all that may be read was read
-pub served-most : (client : ℕ) (a b : List Entry) (left0 left1 x y : Option (List ℕ)) (rest : List ℕ) (total : ℕ) → IsReading client a b left0 left1 x y rest total → total ≡ most_input →
-    IsServedBy client 6 a b left0 left1 x y
-served-most client a b left0 left1 x y rest total r full = record {
+pub served-most : (failed_read failed_write : Type 0) (client : ℕ) (a b : List Entry) (left0 left1 x y : Option (List ℕ)) (rest : List ℕ) (total : ℕ) → IsReading client a b left0 left1 x y rest total → total ≡ most_input →
+    IsServedBy client 6 a b left0 left1 x y failed_read failed_write
+served-most failed_read failed_write client a b left0 left1 x y rest total r full = record {
   read = r.read;
   ended = false;
   reads = r.reads;
@@ -76,26 +77,27 @@ pub nothing-left : (left1 left2 : Option (List ℕ)) → left1 ≡ prepend_known
 nothing-left left1 left2 reads none = subst (λ (l : Option (List ℕ)). IfSome l (λ (rest : List ℕ). rest ≡ [])) (reads ∙ prepend_known-nil left2) none
 
 -- the input has ended
-pub served-whole : (client : ℕ) (a b c : List Entry) (left0 left1 left2 x y z : Option (List ℕ)) (rest : List ℕ) (total : ℕ) → IsReading client a b left0 left1 x y rest total → left1 ≡ prepend_known [] left2 →
-    IfSome left1 (λ (bytes : List ℕ). bytes ≡ []) → total ≤ most_input → Serves client b c y z (evals (rest ∷ [])) → IsServedBy client 0 a c left0 left2 x z
-served-whole client a b c left0 left1 left2 x y z rest total r reads none few s = record {
+pub served-whole : (failed_read failed_write : Type 0) (client : ℕ) (a b c : List Entry) (left0 left1 left2 x y z : Option (List ℕ)) (rest : List ℕ) (total : ℕ) → IsReading client a b left0 left1 x y rest total → left1 ≡ prepend_known [] left2 →
+    IfSome left1 (λ (bytes : List ℕ). bytes ≡ []) → total < most_input → Serves client b c y z (evals (rest ∷ [])) → IsServedBy client 0 a c left0 left2 x z failed_read failed_write
+served-whole failed_read failed_write client a b c left0 left1 left2 x y z rest total r reads none less s = record {
   read = r.read;
   ended = true;
   reads = r.reads ∙ ap (prepend_known r.read) (reads ∙ prepend_known-nil left2);
   all_read = λ e. nothing-left left1 left2 reads none;
-  few = subst (λ n. n ≤ most_input) (sym r.count) few;
+  few = omega (arith, r.count, less);
   outcome = inl (
     refl,
     refl,
+    subst (λ n. n < most_input) (sym r.count) less,
     subst (λ (cs : List Command). Serves client a c x z cs) (sym (last_commands r.read rest r.held))
         (serves-append client a b c x y z (evals (cut r.read).whole) (evals (rest ∷ [])) r.serves s),
   );
 }
 
 -- the last line was served no further
-pub served-part-end : (why : Halt) (client status : ℕ) (a b c : List Entry) (left0 left1 left2 x y z : Option (List ℕ)) (rest : List ℕ) (total : ℕ) → IsReading client a b left0 left1 x y rest total → left1 ≡ prepend_known [] left2 →
-    IfSome left1 (λ (bytes : List ℕ). bytes ≡ []) → total ≤ most_input → status ≡ status_of why → ServesPart why client b c y z (evals (rest ∷ [])) → IsServedBy client status a c left0 left2 x z
-served-part-end why client status a b c left0 left1 left2 x y z rest total r reads none few is s = record {
+pub served-part-end : (failed_read failed_write : Type 0) (why : Halt) (client status : ℕ) (a b c : List Entry) (left0 left1 left2 x y z : Option (List ℕ)) (rest : List ℕ) (total : ℕ) → IsReading client a b left0 left1 x y rest total → left1 ≡ prepend_known [] left2 →
+    IfSome left1 (λ (bytes : List ℕ). bytes ≡ []) → total ≤ most_input → status ≡ status_of why → (why ≡ halt.SinkFailed → failed_write) → ServesPart why client b c y z (evals (rest ∷ [])) → IsServedBy client status a c left0 left2 x z failed_read failed_write
+served-part-end failed_read failed_write why client status a b c left0 left1 left2 x y z rest total r reads none few is failed s = record {
   read = r.read;
   ended = true;
   reads = r.reads ∙ ap (prepend_known r.read) (reads ∙ prepend_known-nil left2);
@@ -104,15 +106,16 @@ served-part-end why client status a b c left0 left1 left2 x y z rest total r rea
   outcome = inr (inr (inr (
     why,
     is,
+    failed,
     subst (λ (cs : List Command). ServesPart why client a c x z cs) (sym (last_commands r.read rest r.held))
         (serves-part-append why client a b c x y z (evals (cut r.read).whole) (evals (rest ∷ [])) r.serves s),
   )));
 }
 
 -- a line of a piece was served no further
-pub served-part-piece : (why : Halt) (client status : ℕ) (a b c : List Entry) (left0 left1 left2 x y z : Option (List ℕ)) (rest piece : List ℕ) (total : ℕ) → IsReading client a b left0 left1 x y rest total → left1 ≡ prepend_known piece left2 →
-    total + length piece ≤ most_input → status ≡ status_of why → ServesPart why client b c y z (evals (cut (rest ++ piece)).whole) → IsServedBy client status a c left0 left2 x z
-served-part-piece why client status a b c left0 left1 left2 x y z rest piece total r reads few is s = record {
+pub served-part-piece : (failed_read failed_write : Type 0) (why : Halt) (client status : ℕ) (a b c : List Entry) (left0 left1 left2 x y z : Option (List ℕ)) (rest piece : List ℕ) (total : ℕ) → IsReading client a b left0 left1 x y rest total → left1 ≡ prepend_known piece left2 →
+    total + length piece ≤ most_input → status ≡ status_of why → (why ≡ halt.SinkFailed → failed_write) → ServesPart why client b c y z (evals (cut (rest ++ piece)).whole) → IsServedBy client status a c left0 left2 x z failed_read failed_write
+served-part-piece failed_read failed_write why client status a b c left0 left1 left2 x y z rest piece total r reads few is failed s = record {
   read = r.read ++ piece;
   ended = false;
   reads = r.reads ∙ ap (prepend_known r.read) reads ∙ prepend_known-prepend_known r.read piece left2;
@@ -121,6 +124,7 @@ served-part-piece why client status a b c left0 left1 left2 x y z rest piece tot
   outcome = inr (inr (inr (
     why,
     is,
+    failed,
     subst (λ (cs : List Command). ServesPart why client a c x z cs) (sym (whole_commands (r.read ++ piece) ∙ more_commands r.read piece rest r.held))
         (serves-part-append why client a b c x y z (evals (cut r.read).whole) (evals (cut (rest ++ piece)).whole) r.serves s),
   )));

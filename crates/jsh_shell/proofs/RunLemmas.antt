@@ -1,11 +1,12 @@
 -- What holds of a client once it has left and the engine is closed.
-use Rattle.std.proofs.Common.{◌≡◌, ℕ, ◌≤◌, ◌⊎◌, Bool, true, false, List, [], ◌∷◌, ◌++◌, Option, None, Some, IfSome, length, take, refl, ap, sym, subst, ◌∙◌, arith, append_assoc, append-nil, inl, inr, set}
+use Rattle.std.proofs.Common.{◌≡◌, ◌≢◌, ℕ, ◌<◌, ◌≤◌, ◌⊎◌, Bool, true, false, List, [], ◌∷◌, ◌++◌, Option, None, Some, IfSome, length, take, refl, ap, sym, subst, ◌∙◌, arith, append_assoc, append-nil, inl, inr, set}
 use Rattle.std.specs.List.{slice_get, All}
-use Rattle.std.proofs.lemmas.List.Elements.{All-cons, All-nil}
+use Rattle.std.proofs.lemmas.List.Elements.{All-append, All-cons, All-nil}
 use Rattle.std.proofs.Math.Seq.{take-length}
 use Rattle.std.proofs.lemmas.List.{take_all}
 use Rattle.std.specs.Io.KnownBytes.{append_known, prepend_known}
 use Rattle.std.proofs.lemmas.Str.{utf16_chars-nil}
+use Rattle.jsh_io.specs.Count.{Rose, TakesPart}
 use Rattle.jsh_io.specs.Inputs.{IsEmptyWhereTold}
 use Rattle.jsh_snippet.specs.declared.acts.Act.TheVariants as act
 use Rattle.jsh_snippet.specs.declared.acts.Entry.{Entry}
@@ -19,9 +20,9 @@ use Rattle.jsh_shell.specs.Budget.{default_budget, most_input}
 use Rattle.jsh_shell.specs.Progress.{Phase, Progress, Goes, OwnGoes, Follows, begins}
 use Rattle.jsh_shell.specs.Progress.Phase.{Between, Evaluating, CutShort}
 use Rattle.jsh_shell.specs.Transcript.{transcript, transcript_after}
-use Rattle.jsh_shell.specs.Limited.{IsLimited}
-use Rattle.jsh_shell.specs.Journal.{entry_of, IsFramed, Leaves, IsServed}
-use Rattle.jsh_shell.specs.Serving.{Advances, Halts, IsBetween, IsOpen, IsServedBy, Serves, ServesPart, status_of}
+use Rattle.jsh_shell.specs.Limited.{HasRest, IsLimited, IsTooLong}
+use Rattle.jsh_shell.specs.Journal.{entry_of, IsDone, IsFramed, Leaves, IsServed, IsUsage}
+use Rattle.jsh_shell.specs.Serving.{Advances, AreOwn, Ends, Halts, IsBetween, IsOpen, IsServedBy, Serves, ServesPart, status_of}
 use Rattle.jsh_shell.proofs.Walk.{not_closed-push, state_after-append, follows-append, transcript-append, goes-own}
 
 -- the journal of a call with one client
@@ -67,7 +68,7 @@ ends entries = record {
 
 -- before its first entry the client stands between two commands
 first_between : (cs : List Command) → IsBetween (state_of (entry_of 0 act.Enter ∷ [])) (cs ++ []) (begins cs)
-first_between cs = record { phase = refl; left = sym (append-nil cs); has_left = refl; last_turn = omega arith }
+first_between cs = record { phase = refl; left = sym (append-nil cs); limited = refl; has_left = refl; last_turn = omega arith }
 
 -- a sink that held nothing holds what was written
 holds : (before after : Option (List ℕ)) (text : List ℕ) → IsEmptyWhereTold before → after ≡ append_known before text → IfSome after (λ (bytes : List ℕ). bytes ≡ text)
@@ -82,6 +83,7 @@ record IsWhole (b : List Entry) (x y : Option (List ℕ)) (cs : List Command) : 
   q : Progress
   entries : List Entry
   grows : b ≡ entry_of 0 act.Enter ∷ entries
+  own : AreOwn 1 entries
   follows : Follows default_budget 1 (state_of (entry_of 0 act.Enter ∷ [])) (begins cs) entries q
   written : y ≡ append_known x (transcript_after 1 (state_of (entry_of 0 act.Enter ∷ [])) entries)
   done : IsBetween (state_of b) [] q
@@ -89,14 +91,31 @@ record IsWhole (b : List Entry) (x y : Option (List ℕ)) (cs : List Command) : 
 whole_of : (b : List Entry) (x y : Option (List ℕ)) (cs : List Command) → Serves 1 (entry_of 0 act.Enter ∷ []) b x y cs → IsWhole b x y cs
 whole_of b x y cs s =
     let r : (q : Progress) × Advances default_budget 1 (entry_of 0 act.Enter ∷ []) b x y (begins cs) q × IsBetween (state_of b) [] q = s.each (begins cs) [] (first_between cs) in
-    record { q = r.0; entries = r.1.entries; grows = r.1.grows; follows = r.1.follows; written = r.1.written; done = r.2 }
+    record { q = r.0; entries = r.1.entries; grows = r.1.grows; own = r.1.own; follows = r.1.follows; written = r.1.written; done = r.2 }
+
+-- who is done is at no limit
+done_free : (before : List Entry) (p : Progress) (read : List ℕ) → IsDone p → length read < most_input → IsLimited before p ⊎ (length read ≡ most_input) → ⊥
+done_free before p read d less (inl (inl limited)) = let e : true ≡ false = sym limited ∙ d.limited in cc
+done_free before p read d less (inl (inr (inl long))) = subst (λ (cs : List Command). IsTooLong before cs) d.commands long.1
+done_free before p read d less (inl (inr (inr full))) = subst (λ (cs : List Command). HasRest Between cs) d.commands (subst (λ (at : Phase). HasRest at p.commands) d.phase full.0)
+done_free before p read d less (inr most) = omega (arith, less, most)
+
+-- the status of a client at a limit
+status_at_limit : (status : ℕ) (before : List Entry) (p : Progress) (read : List ℕ) (ended : Bool) (failed_write : Type 0) → (status ≡ 0) ⊎ ((status ≡ 3) ⊎ ((status ≡ 4) ⊎ ((status ≡ 5) ⊎ (status ≡ 6)))) →
+    (status ≡ 0 → IsDone p × (ended ≡ true) × (length read < most_input)) → (status ≡ 3 → IsDone p × (ended ≡ false) × (length read < most_input)) → (status ≡ 4 → failed_write) →
+    IsLimited before p ⊎ (length read ≡ most_input) → (failed_write → ⊥) → (status ≡ 6) ⊎ (status ≡ 5)
+status_at_limit status before p read ended failed_write (inl e) zero three four at none = absurd (done_free before p read (zero e).0 (zero e).2 at)
+status_at_limit status before p read ended failed_write (inr (inl e)) zero three four at none = absurd (done_free before p read (three e).0 (three e).2 at)
+status_at_limit status before p read ended failed_write (inr (inr (inl e))) zero three four at none = absurd (none (four e))
+status_at_limit status before p read ended failed_write (inr (inr (inr (inl e)))) zero three four at none = inr e
+status_at_limit status before p read ended failed_write (inr (inr (inr (inr e)))) zero three four at none = inl e
 
 -- the status of a client all of whose commands were served
-served_whole : (status : ℕ) (b journal : List Entry) (given left x y : Option (List ℕ)) (read : List ℕ) (ended : Bool) → journal ≡ b ++ entry_of 1 act.Leave ∷ entry_of 0 act.Close ∷ [] → IsEmptyWhereTold x →
-    given ≡ prepend_known read left → (ended ≡ true → IfSome left (λ rest. rest ≡ [])) → length read ≤ most_input →
-    (status ≡ 0 → ended ≡ true) → (status ≡ 3 → ended ≡ false) → (status ≡ 6 → (ended ≡ false) × (length read ≡ most_input)) →
-    IsWhole b x y (commands read ended) → IsServed default_budget 1 status journal given left y
-served_whole status b journal given left x y read ended is empty reads all few zero three six w = subst (λ (j : List Entry). IsServed default_budget 1 status j given left y) (sym same) (record {
+served_whole : (failed_read failed_write : Type 0) (status : ℕ) (b journal : List Entry) (given left x y : Option (List ℕ)) (read : List ℕ) (ended : Bool) → journal ≡ b ++ entry_of 1 act.Leave ∷ entry_of 0 act.Close ∷ [] → IsEmptyWhereTold x →
+    given ≡ prepend_known read left → (ended ≡ true → IfSome left (λ rest. rest ≡ [])) → length read ≤ most_input → (status ≡ 0) ⊎ ((status ≡ 3) ⊎ (status ≡ 6)) →
+    (status ≡ 0 → (ended ≡ true) × (length read < most_input)) → (status ≡ 3 → (ended ≡ false) × (length read < most_input) × failed_read) → (status ≡ 6 → (ended ≡ false) × (length read ≡ most_input)) →
+    IsWhole b x y (commands read ended) → IsServed default_budget 1 status journal given left y failed_read failed_write
+served_whole failed_read failed_write status b journal given left x y read ended is empty reads all few some zero three six w = subst (λ (j : List Entry). IsServed default_budget 1 status j given left y failed_read failed_write) (sym same) (record {
   read = read;
   ended = ended;
   reads = reads;
@@ -106,14 +125,37 @@ served_whole status b journal given left x y read ended is empty reads all few z
   follows = walk w.entries (begins (commands read ended)) w.q w.follows w.done.has_left;
   has_left = refl;
   leaves = ends w.entries;
-  ok = λ e. (record { phase = w.done.phase; commands = w.done.left }, zero e);
-  failed_read = λ e. (record { phase = w.done.phase; commands = w.done.left }, three e);
-  limited = λ e. inr (record { phase = w.done.phase; commands = w.done.left }, (six e).0, (six e).1);
+  statuses = any some;
+  ok = ok;
+  failed_read_part = failed;
+  source_failed = λ e. (three e).2;
+  sink_failed = λ e. absurd (no_four some e);
+  limited = λ e. inr (done, (six e).0, (six e).1);
+  at_limit = status_at_limit status (entry_of 0 act.Enter ∷ w.entries) (record w.q { has_left = true }) read ended failed_write (any some) ok failed (λ e. absurd (no_four some e));
   memory = λ e. absurd (not_cut (sym w.done.phase ∙ e));
   written = λ e. whole;
   part = subst (λ (held : Option (List ℕ)). IfSome held (λ bytes. (n : ℕ) × (bytes ≡ take n (transcript 1 (journal_of w.entries))))) refl (part_of y whole);
 })
   where
+    done : IsDone (record w.q { has_left = true })
+    done = record { phase = w.done.phase; commands = w.done.left; limited = w.done.limited }
+
+    ok : status ≡ 0 → IsDone (record w.q { has_left = true }) × (ended ≡ true) × (length read < most_input)
+    ok e = (done, (zero e).0, (zero e).1)
+
+    failed : status ≡ 3 → IsDone (record w.q { has_left = true }) × (ended ≡ false) × (length read < most_input)
+    failed e = (done, (three e).0, (three e).1)
+
+    any : (status ≡ 0) ⊎ ((status ≡ 3) ⊎ (status ≡ 6)) → (status ≡ 0) ⊎ ((status ≡ 3) ⊎ ((status ≡ 4) ⊎ ((status ≡ 5) ⊎ (status ≡ 6))))
+    any (inl e) = inl e
+    any (inr (inl e)) = inr (inl e)
+    any (inr (inr e)) = inr (inr (inr (inr e)))
+
+    no_four : (status ≡ 0) ⊎ ((status ≡ 3) ⊎ (status ≡ 6)) → status ≡ 4 → ⊥
+    no_four (inl e) four = omega (arith, e, four)
+    no_four (inr (inl e)) four = omega (arith, e, four)
+    no_four (inr (inr e)) four = omega (arith, e, four)
+
     same : journal ≡ journal_of w.entries
     same = is ∙ ap (λ (h : List Entry). h ++ entry_of 1 act.Leave ∷ entry_of 0 act.Close ∷ []) w.grows
 
@@ -146,11 +188,22 @@ only_limit halt.NoMemory e = absurd (omega (arith, e))
 only_limit halt.Limit e = refl
 only_limit halt.SinkFailed e = absurd (omega (arith, e))
 
+only_sink : (why : Halt) → status_of why ≡ 4 → why ≡ halt.SinkFailed
+only_sink halt.NoMemory e = absurd (omega (arith, e))
+only_sink halt.Limit e = absurd (omega (arith, e))
+only_sink halt.SinkFailed e = refl
+
+halt_status : (status : ℕ) (why : Halt) → status ≡ status_of why → (status ≡ 0) ⊎ ((status ≡ 3) ⊎ ((status ≡ 4) ⊎ ((status ≡ 5) ⊎ (status ≡ 6))))
+halt_status status halt.NoMemory e = inr (inr (inr (inl e)))
+halt_status status halt.Limit e = inr (inr (inr (inr e)))
+halt_status status halt.SinkFailed e = inr (inr (inl e))
+
 -- the entries that the client made, where it was served no further
 record IsHalted (why : Halt) (b : List Entry) (x y : Option (List ℕ)) (cs : List Command) : Type 0 where
   q : Progress
   entries : List Entry
   grows : b ≡ entry_of 0 act.Enter ∷ entries
+  own : AreOwn 1 entries
   follows : Follows default_budget 1 (state_of (entry_of 0 act.Enter ∷ [])) (begins cs) entries q
   count : ℕ
   written : y ≡ append_known x (take count (transcript_after 1 (state_of (entry_of 0 act.Enter ∷ [])) entries))
@@ -166,6 +219,7 @@ halted_of why b x y cs s =
       q = r.0;
       entries = r.1.entries;
       grows = r.1.grows;
+      own = r.1.own;
       follows = r.1.follows;
       count = r.1.count;
       written = r.1.written;
@@ -176,11 +230,10 @@ halted_of why b x y cs s =
     }
 
 -- the status of a client that was served no further
-served_halted : (why : Halt) (status : ℕ) (b journal : List Entry) (given left x y : Option (List ℕ)) (read : List ℕ) (ended : Bool) → journal ≡ b ++ entry_of 1 act.Leave ∷ entry_of 0 act.Close ∷ [] → IsEmptyWhereTold x →
-    given ≡ prepend_known read left → (ended ≡ true → IfSome left (λ rest. rest ≡ [])) → length read ≤ most_input → status ≡ status_of why →
-    (status ≡ 0 → ⊥) → (status ≡ 3 → ⊥) → (status ≡ 6 → why ≡ halt.Limit) → (why ≡ halt.NoMemory → status ≡ 5) →
-    IsHalted why b x y (commands read ended) → IsServed default_budget 1 status journal given left y
-served_halted why status b journal given left x y read ended is empty reads all few at zero three six five w = subst (λ (j : List Entry). IsServed default_budget 1 status j given left y) (sym same) (record {
+served_halted : (failed_read failed_write : Type 0) (why : Halt) (status : ℕ) (b journal : List Entry) (given left x y : Option (List ℕ)) (read : List ℕ) (ended : Bool) → journal ≡ b ++ entry_of 1 act.Leave ∷ entry_of 0 act.Close ∷ [] → IsEmptyWhereTold x →
+    given ≡ prepend_known read left → (ended ≡ true → IfSome left (λ rest. rest ≡ [])) → length read ≤ most_input → status ≡ status_of why → (why ≡ halt.SinkFailed → failed_write) →
+    IsHalted why b x y (commands read ended) → IsServed default_budget 1 status journal given left y failed_read failed_write
+served_halted failed_read failed_write why status b journal given left x y read ended is empty reads all few at failed w = subst (λ (j : List Entry). IsServed default_budget 1 status j given left y failed_read failed_write) (sym same) (record {
   read = read;
   ended = ended;
   reads = reads;
@@ -190,14 +243,30 @@ served_halted why status b journal given left x y read ended is empty reads all 
   follows = walk w.entries (begins (commands read ended)) w.q w.follows w.here;
   has_left = refl;
   leaves = ends w.entries;
+  statuses = halt_status status why at;
   ok = λ e. absurd (zero e);
-  failed_read = λ e. absurd (three e);
+  failed_read_part = λ e. absurd (three e);
+  source_failed = λ e. absurd (three e);
+  sink_failed = four;
   limited = λ e. inl (subst (λ (h : List Entry). IsLimited h w.q) w.grows (w.limit (six e)));
-  memory = λ e. five (w.phase e);
+  at_limit = status_at_limit status (entry_of 0 act.Enter ∷ w.entries) (record w.q { has_left = true }) read ended failed_write (halt_status status why at) (λ e. absurd (zero e)) (λ e. absurd (three e)) four;
+  memory = λ e. at ∙ ap status_of (w.phase e);
   written = λ e. written_whole e;
   part = part_of y (holds x y (take w.count (transcript 1 (journal_of w.entries))) empty part_written);
 })
   where
+    zero : status ≡ 0 → ⊥
+    zero e = no_zero why (sym at ∙ e)
+
+    three : status ≡ 3 → ⊥
+    three e = no_three why (sym at ∙ e)
+
+    four : status ≡ 4 → failed_write
+    four e = failed (only_sink why (sym at ∙ e))
+
+    six : status ≡ 6 → why ≡ halt.Limit
+    six e = only_limit why (sym at ∙ e)
+
     same : journal ≡ journal_of w.entries
     same = is ∙ ap (λ (h : List Entry). h ++ entry_of 1 act.Leave ∷ entry_of 0 act.Close ∷ []) w.grows
 
@@ -208,10 +277,6 @@ served_halted why status b journal given left x y read ended is empty reads all 
     part_of None h = tt
     part_of (Some bytes) h = (w.count, h)
 
-    limit_written : why ≡ halt.Limit → IfSome y (λ (bytes : List ℕ). bytes ≡ transcript 1 (journal_of w.entries))
-    limit_written e = holds x y (transcript 1 (journal_of w.entries)) empty
-        (w.written ∙ ap (append_known x) (take_whole w.count (transcript_after 1 (state_of (entry_of 0 act.Enter ∷ [])) w.entries) (w.whole e) ∙ sym (whole_transcript w.entries)))
-
     written_whole : (status ≡ 0) ⊎ ((status ≡ 3) ⊎ (status ≡ 6)) → IfSome y (λ (bytes : List ℕ). bytes ≡ transcript 1 (journal_of w.entries))
     written_whole (inl e) = absurd (zero e)
     written_whole (inr (inl e)) = absurd (three e)
@@ -219,19 +284,20 @@ served_halted why status b journal given left x y read ended is empty reads all 
         (w.written ∙ ap (append_known x) (take_whole w.count (transcript_after 1 (state_of (entry_of 0 act.Enter ∷ [])) w.entries) (w.whole (six e)) ∙ sym (whole_transcript w.entries)))
 
 -- each way in which the serving of a client may end
-pub is-served : (status : ℕ) (b journal : List Entry) (given left x y : Option (List ℕ)) → journal ≡ b ++ entry_of 1 act.Leave ∷ entry_of 0 act.Close ∷ [] → IsEmptyWhereTold x →
-    IsServedBy 1 status (entry_of 0 act.Enter ∷ []) b given left x y → IsServed default_budget 1 status journal given left y
-is-served status b journal given left x y is empty by = from by.outcome
+pub is-served : (failed_read failed_write : Type 0) (status : ℕ) (b journal : List Entry) (given left x y : Option (List ℕ)) → journal ≡ b ++ entry_of 1 act.Leave ∷ entry_of 0 act.Close ∷ [] → IsEmptyWhereTold x →
+    IsServedBy 1 status (entry_of 0 act.Enter ∷ []) b given left x y failed_read failed_write → IsServed default_budget 1 status journal given left y failed_read failed_write
+is-served failed_read failed_write status b journal given left x y is empty by = from by.outcome
   where
-    from : ((status ≡ 0) × (by.ended ≡ true) × Serves 1 (entry_of 0 act.Enter ∷ []) b x y (commands by.read by.ended))
-        ⊎ ((status ≡ 3) × (by.ended ≡ false) × Serves 1 (entry_of 0 act.Enter ∷ []) b x y (commands by.read by.ended))
-        ⊎ ((status ≡ 6) × (by.ended ≡ false) × (length by.read ≡ most_input) × Serves 1 (entry_of 0 act.Enter ∷ []) b x y (commands by.read by.ended))
-        ⊎ ((why : Halt) × (status ≡ status_of why) × ServesPart why 1 (entry_of 0 act.Enter ∷ []) b x y (commands by.read by.ended)) → IsServed default_budget 1 status journal given left y
-    from (inl ok) = served_whole status b journal given left x y by.read by.ended is empty by.reads by.all_read by.few (λ e. ok.1) (λ e. absurd (omega (arith, e, ok.0))) (λ e. absurd (omega (arith, e, ok.0))) (whole_of b x y _ ok.2)
-    from (inr (inl failed)) = served_whole status b journal given left x y by.read by.ended is empty by.reads by.all_read by.few (λ e. absurd (omega (arith, e, failed.0))) (λ e. failed.1) (λ e. absurd (omega (arith, e, failed.0))) (whole_of b x y _ failed.2)
-    from (inr (inr (inl most))) = served_whole status b journal given left x y by.read by.ended is empty by.reads by.all_read by.few (λ e. absurd (omega (arith, e, most.0))) (λ e. absurd (omega (arith, e, most.0))) (λ e. (most.1, most.2)) (whole_of b x y _ most.3)
-    from (inr (inr (inr halted))) = served_halted halted.0 status b journal given left x y by.read by.ended is empty by.reads by.all_read by.few halted.1
-        (λ e. no_zero halted.0 (sym halted.1 ∙ e)) (λ e. no_three halted.0 (sym halted.1 ∙ e)) (λ e. only_limit halted.0 (sym halted.1 ∙ e)) (λ e. halted.1 ∙ ap status_of e) (halted_of halted.0 b x y _ halted.2)
+    whole : (status ≡ 0) ⊎ ((status ≡ 3) ⊎ (status ≡ 6)) → (status ≡ 0 → (by.ended ≡ true) × (length by.read < most_input)) →
+        (status ≡ 3 → (by.ended ≡ false) × (length by.read < most_input) × failed_read) → (status ≡ 6 → (by.ended ≡ false) × (length by.read ≡ most_input)) →
+        Serves 1 (entry_of 0 act.Enter ∷ []) b x y (commands by.read by.ended) → IsServed default_budget 1 status journal given left y failed_read failed_write
+    whole some zero three six s = served_whole failed_read failed_write status b journal given left x y by.read by.ended is empty by.reads by.all_read by.few some zero three six (whole_of b x y (commands by.read by.ended) s)
+
+    from : Ends 1 status (entry_of 0 act.Enter ∷ []) b x y by.read by.ended failed_read failed_write → IsServed default_budget 1 status journal given left y failed_read failed_write
+    from (inl ok) = whole (inl ok.0) (λ e. (ok.1, ok.2)) (λ e. absurd (omega (arith, e, ok.0))) (λ e. absurd (omega (arith, e, ok.0))) ok.3
+    from (inr (inl failed)) = whole (inr (inl failed.0)) (λ e. absurd (omega (arith, e, failed.0))) (λ e. (failed.1, failed.2, failed.3)) (λ e. absurd (omega (arith, e, failed.0))) failed.4
+    from (inr (inr (inl most))) = whole (inr (inr most.0)) (λ e. absurd (omega (arith, e, most.0))) (λ e. absurd (omega (arith, e, most.0))) (λ e. (most.1, most.2)) most.3
+    from (inr (inr (inr halted))) = served_halted failed_read failed_write halted.0 status b journal given left x y by.read by.ended is empty by.reads by.all_read by.few halted.1 halted.2 (halted_of halted.0 b x y (commands by.read by.ended) halted.3)
 
 -- the engine as it opens, and behind the entry of its first client
 pub open-first : (history : List Entry) → history ≡ entry_of 0 act.Enter ∷ [] → IsOpen 1 history
@@ -265,27 +331,104 @@ two-more b c d x y one two = two ∙ ap (λ (h : List Entry). h ++ y ∷ []) one
 pub sole : {A : Type 0} (P : A → Type 0) (xs : List A) (r : A) → xs ≡ r ∷ [] → P r → All P xs
 sole {A} P xs r is h = subst (λ (ys : List A). All P ys) (sym is) (All-cons P r [] h (All-nil P))
 
+-- a journal with one client begins with its entry, and all that follows is its own
+pub record HasBegun (b : List Entry) : Type 0 where
+  pub entries : List Entry
+  pub grows : b ≡ entry_of 0 act.Enter ∷ entries
+  pub own : AreOwn 1 entries
+
 -- what was served began behind the first entry
-pub began : (status : ℕ) (b : List Entry) (given left x y : Option (List ℕ)) → IsServedBy 1 status (entry_of 0 act.Enter ∷ []) b given left x y → (entries : List Entry) × (b ≡ entry_of 0 act.Enter ∷ entries)
-began status b given left x y by = from by.outcome
+pub began : (failed_read failed_write : Type 0) (status : ℕ) (b : List Entry) (given left x y : Option (List ℕ)) → IsServedBy 1 status (entry_of 0 act.Enter ∷ []) b given left x y failed_read failed_write → HasBegun b
+began failed_read failed_write status b given left x y by = from by.outcome
   where
-    from : ((status ≡ 0) × (by.ended ≡ true) × Serves 1 (entry_of 0 act.Enter ∷ []) b x y (commands by.read by.ended))
-        ⊎ ((status ≡ 3) × (by.ended ≡ false) × Serves 1 (entry_of 0 act.Enter ∷ []) b x y (commands by.read by.ended))
-        ⊎ ((status ≡ 6) × (by.ended ≡ false) × (length by.read ≡ most_input) × Serves 1 (entry_of 0 act.Enter ∷ []) b x y (commands by.read by.ended))
-        ⊎ ((why : Halt) × (status ≡ status_of why) × ServesPart why 1 (entry_of 0 act.Enter ∷ []) b x y (commands by.read by.ended)) → (entries : List Entry) × (b ≡ entry_of 0 act.Enter ∷ entries)
-    from (inl ok) = let w : IsWhole b x y (commands by.read by.ended) = whole_of b x y (commands by.read by.ended) ok.2 in (w.entries, w.grows)
-    from (inr (inl failed)) = let w : IsWhole b x y (commands by.read by.ended) = whole_of b x y (commands by.read by.ended) failed.2 in (w.entries, w.grows)
-    from (inr (inr (inl most))) = let w : IsWhole b x y (commands by.read by.ended) = whole_of b x y (commands by.read by.ended) most.3 in (w.entries, w.grows)
-    from (inr (inr (inr halted))) = let w : IsHalted halted.0 b x y (commands by.read by.ended) = halted_of halted.0 b x y (commands by.read by.ended) halted.2 in (w.entries, w.grows)
+    whole : Serves 1 (entry_of 0 act.Enter ∷ []) b x y (commands by.read by.ended) → HasBegun b
+    whole s = let w : IsWhole b x y (commands by.read by.ended) = whole_of b x y (commands by.read by.ended) s in record { entries = w.entries; grows = w.grows; own = w.own }
+
+    from : Ends 1 status (entry_of 0 act.Enter ∷ []) b x y by.read by.ended failed_read failed_write → HasBegun b
+    from (inl ok) = whole ok.3
+    from (inr (inl failed)) = whole failed.4
+    from (inr (inr (inl most))) = whole most.3
+    from (inr (inr (inr halted))) =
+        let w : IsHalted halted.0 b x y (commands by.read by.ended) = halted_of halted.0 b x y (commands by.read by.ended) halted.3 in record { entries = w.entries; grows = w.grows; own = w.own }
+
+-- an own entry of the first client is of one of one clients
+own_first : (entries : List Entry) → AreOwn 1 entries → All (λ (e : Entry). (0 < e.client) × (e.client ≤ 1)) entries
+own_first entries own = λ k d h. let is = own k d h in (omega (arith, is), omega (arith, is))
 
 -- the frame of a journal with one client
-pub framed-one : (b journal : List Entry) → journal ≡ b ++ entry_of 1 act.Leave ∷ entry_of 0 act.Close ∷ [] → (began : (entries : List Entry) × (b ≡ entry_of 0 act.Enter ∷ entries)) → IsFramed 1 journal
+pub framed-one : (b journal : List Entry) → journal ≡ b ++ entry_of 1 act.Leave ∷ entry_of 0 act.Close ∷ [] → HasBegun b → IsFramed 1 journal
 framed-one b journal is began = record {
-  middle = began.0 ++ entry_of 1 act.Leave ∷ [];
-  whole = is ∙ ap (λ (h : List Entry). h ++ entry_of 1 act.Leave ∷ entry_of 0 act.Close ∷ []) began.1
-      ∙ ap (λ (h : List Entry). entry_of 0 act.Enter ∷ h) (sym (append_assoc began.0 (entry_of 1 act.Leave ∷ []) (entry_of 0 act.Close ∷ [])));
+  middle = began.entries ++ entry_of 1 act.Leave ∷ [];
+  whole = is ∙ ap (λ (h : List Entry). h ++ entry_of 1 act.Leave ∷ entry_of 0 act.Close ∷ []) began.grows
+      ∙ ap (λ (h : List Entry). entry_of 0 act.Enter ∷ h) (sym (append_assoc began.entries (entry_of 1 act.Leave ∷ []) (entry_of 0 act.Close ∷ [])));
+  theirs = All-append (λ (e : Entry). (0 < e.client) × (e.client ≤ 1)) began.entries (entry_of 1 act.Leave ∷ []) (own_first began.entries began.own)
+      (All-cons (λ (e : Entry). (0 < e.client) × (e.client ≤ 1)) (entry_of 1 act.Leave) [] (omega arith, omega arith) (All-nil (λ (e : Entry). (0 < e.client) × (e.client ≤ 1))));
 }
 
 -- the frame of a journal without clients
 pub framed-none : (journal : List Entry) → journal ≡ entry_of 0 act.Close ∷ [] → IsFramed 0 journal
-framed-none journal is = record { middle = []; whole = is }
+framed-none journal is = record { middle = []; whole = is; theirs = All-nil (λ (e : Entry). (0 < e.client) × (e.client ≤ 0)) }
+
+-- the status of a call, with its cause in a client's streams
+abbrev pub Causes : ℕ → Type 0 → Type 0 → Type 0
+Causes status failed_read failed_write = (status ≡ 0) ⊎ ((status ≡ 3) × failed_read) ⊎ ((status ≡ 4) × failed_write) ⊎ (status ≡ 5) ⊎ (status ≡ 6)
+
+-- what holds of the first of some
+first_of : {A : Type 0} (P : A → Type 0) (x : A) (xs : List A) → All P (x ∷ xs) → P x
+first_of P x xs all = all 0 x (omega arith)
+
+-- the cause of the status of a client that was served
+pub served-causes : {budget client status call : ℕ} {journal : List Entry} {given left held : Option (List ℕ)} {failed_read failed_write : Type 0} →
+    status ≡ call → IsServed budget client status journal given left held failed_read failed_write → Causes call failed_read failed_write
+served-causes {status = status} {call = call} {failed_read = failed_read} {failed_write = failed_write} same s = from s.statuses
+  where
+    from : (status ≡ 0) ⊎ ((status ≡ 3) ⊎ ((status ≡ 4) ⊎ ((status ≡ 5) ⊎ (status ≡ 6)))) → Causes call failed_read failed_write
+    from (inl e) = inl (sym same ∙ e)
+    from (inr (inl e)) = inr (inl (sym same ∙ e, s.source_failed e))
+    from (inr (inr (inl e))) = inr (inr (inl (sym same ∙ e, s.sink_failed e)))
+    from (inr (inr (inr (inl e)))) = inr (inr (inr (inl (sym same ∙ e))))
+    from (inr (inr (inr (inr e)))) = inr (inr (inr (inr (sym same ∙ e))))
+
+-- where nothing failed, the call ends well, at a limit, or for want of memory
+pub healthy-status : {A : Type 0} (status : ℕ) (unread unwritten : A → Type 0) (clients : List A) → (clients ≡ [] → status ≡ 5) → All (λ r. Causes status (unread r) (unwritten r)) clients →
+    All (λ r. (unread r → ⊥) × (unwritten r → ⊥)) clients → (status ≡ 0) ⊎ ((status ≡ 6) ⊎ (status ≡ 5))
+healthy-status status unread unwritten [] alone causes well = inr (inr (alone refl))
+healthy-status {A} status unread unwritten (r ∷ rs) alone causes well =
+    from (first_of (λ (r : A). Causes status (unread r) (unwritten r)) r rs causes) (first_of (λ (r : A). (unread r → ⊥) × (unwritten r → ⊥)) r rs well)
+  where
+    from : Causes status (unread r) (unwritten r) → (unread r → ⊥) × (unwritten r → ⊥) → (status ≡ 0) ⊎ ((status ≡ 6) ⊎ (status ≡ 5))
+    from (inl e) w = inl e
+    from (inr (inl e)) w = absurd (w.0 e.1)
+    from (inr (inr (inl e))) w = absurd (w.1 e.1)
+    from (inr (inr (inr (inl e)))) w = inr (inr e)
+    from (inr (inr (inr (inr e)))) w = inr (inl e)
+
+-- no client that was served has the status of refused words
+pub accepted-status : {A : Type 0} (status : ℕ) (unread unwritten : A → Type 0) (clients : List A) → (clients ≡ [] → status ≡ 5) → All (λ r. Causes status (unread r) (unwritten r)) clients → status ≢ 2
+accepted-status status unread unwritten [] alone causes = let five : status ≡ 5 = alone refl in omega (arith, five)
+accepted-status {A} status unread unwritten (r ∷ rs) alone causes = from (first_of (λ (r : A). Causes status (unread r) (unwritten r)) r rs causes)
+  where
+    from : Causes status (unread r) (unwritten r) → status ≢ 2
+    from (inl e) = omega (arith, e)
+    from (inr (inl e)) = omega (arith, e.0)
+    from (inr (inr (inl e))) = omega (arith, e.0)
+    from (inr (inr (inr (inl e)))) = omega (arith, e)
+    from (inr (inr (inr (inr e)))) = omega (arith, e)
+
+-- streams that come without faults
+pub served-fresh : {budget client status : ℕ} {journal : List Entry} {given left held : Option (List ℕ)} (reads reads_now writes writes_now : ℕ) → reads ≡ 0 → writes ≡ 0 →
+    IsServed budget client status journal given left held (Rose reads reads_now) (Rose writes writes_now) → IsServed budget client status journal given left held (Rose 0 reads_now) (Rose 0 writes_now)
+served-fresh {budget = budget} {client = client} {status = status} {journal = journal} {given = given} {left = left} {held = held} reads reads_now writes writes_now no_read no_write s =
+    subst (λ (n : ℕ). IsServed budget client status journal given left held (Rose n reads_now) (Rose 0 writes_now)) no_read
+    (subst (λ (n : ℕ). IsServed budget client status journal given left held (Rose reads reads_now) (Rose n writes_now)) no_write s)
+
+-- a sink that held nothing and was written the usage line
+pub usage-of : (before after : Option (List ℕ)) (line : List ℕ) (writes writes_now : ℕ) → IsEmptyWhereTold before → writes ≡ 0 →
+    (after ≡ append_known before line) ⊎ (TakesPart before after line × Rose writes writes_now) → IsUsage after line (Rose 0 writes_now)
+usage-of before after line writes writes_now empty none (inl whole) = inl (holds before after line empty whole)
+usage-of before after line writes writes_now empty none (inr part) =
+    inr (subst (λ (n : ℕ). Rose n writes_now) none part.1, front after (holds before after (take part.0.0 line) empty part.0.2))
+  where
+    front : (after : Option (List ℕ)) → IfSome after (λ (bytes : List ℕ). bytes ≡ take part.0.0 line) → IfSome after (λ (bytes : List ℕ). (n : ℕ) × (n < length line) × (bytes ≡ take n line))
+    front None h = tt
+    front (Some bytes) h = (part.0.0, part.0.1, h)

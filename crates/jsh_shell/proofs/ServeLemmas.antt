@@ -1,6 +1,7 @@
 -- How the serving of commands is put together.
 use Rattle.std.proofs.Common.{◌≡◌, ℕ, ◌-◌, ◌<◌, ◌≤◌, ◌^◌, true, false, List, [], ◌∷◌, ◌++◌, Option, Some, length, refl, sym, subst, ◌∙◌, arith, append_assoc, inl, inr, ◌⊎◌}
 use Rattle.std.proofs.lemmas.Bool.{cases_lt}
+use Rattle.jsh_io.specs.Count.{Rose}
 use Rattle.jsh_snippet.specs.declared.acts.Entry.{Entry}
 use Rattle.jsh_lines.specs.Lines.{Command, evals, is_blank, as_text}
 use Rattle.jsh_lines.specs.Lines.Command.{Eval}
@@ -106,12 +107,22 @@ cause-elsewhere halt.SinkFailed before after other = absurd (other refl)
 cause-elsewhere halt.NoMemory before after other = tt
 cause-elsewhere halt.Limit before after other = tt
 
--- a cause stays one from an earlier count on
-pub cause-earlier : (why : Halt) (first before after : ℕ) → first ≤ before → before ≤ after → HasCause why before after → HasCause why first after
-cause-earlier halt.SinkFailed first before after low high cause = λ below. elim (cases_lt before (2 ^ 64 - 1)) [
-  | inl small ↦ (let up : before < after = cause small in let r : first < after = omega arith in r)
+-- a count that rose has risen since an earlier one
+pub rose-earlier : (first before after : ℕ) → first ≤ before → before ≤ after → Rose before after → Rose first after
+rose-earlier first before after low high rose = λ below. elim (cases_lt before (2 ^ 64 - 1)) [
+  | inl small ↦ (let up : before < after = rose small in let r : first < after = omega arith in r)
   | inr large ↦ (let r : first < after = omega arith in r)
 ]
+
+-- a halt of the sink's is one where its count rose
+pub sink-rose : (why : Halt) (before after : ℕ) → HasCause why before after → why ≡ halt.SinkFailed → Rose before after
+sink-rose halt.SinkFailed before after cause e = cause
+sink-rose halt.NoMemory before after cause e = cc
+sink-rose halt.Limit before after cause e = cc
+
+-- a cause stays one from an earlier count on
+pub cause-earlier : (why : Halt) (first before after : ℕ) → first ≤ before → before ≤ after → HasCause why before after → HasCause why first after
+cause-earlier halt.SinkFailed first before after low high cause = rose-earlier first before after low high cause
 cause-earlier halt.NoMemory first before after low high cause = tt
 cause-earlier halt.Limit first before after low high cause = tt
 

@@ -3,6 +3,7 @@ use Rattle.std.proofs.Common.{◌≡◌, ℕ, ◌+◌, ◌<◌, ◌≤◌, Bool,
 use Rattle.std.proofs.Math.Seq.{take-append-add}
 use Rattle.std.specs.Io.KnownBytes.{append_known}
 use Rattle.std.specs.List.{slice_get, list_any}
+use Rattle.std.proofs.lemmas.List.Elements.{All-append, All-cons, All-nil}
 use Rattle.jsh_snippet.specs.declared.acts.Act.{Act}
 use Rattle.jsh_snippet.specs.declared.acts.Act.TheVariants as act
 use Rattle.jsh_snippet.specs.declared.acts.Entry.{Entry}
@@ -19,7 +20,7 @@ use Rattle.jsh_shell.specs.Progress.{Progress, Goes, OwnGoes, Follows}
 use Rattle.jsh_shell.specs.Progress.Phase.{CutShort}
 use Rattle.jsh_shell.specs.Transcript.{shown_to, transcript_after, is_turn}
 use Rattle.jsh_shell.specs.Limited.{IsLimited}
-use Rattle.jsh_shell.specs.Serving.{Advances, Halts, IsOpen, WritesPart}
+use Rattle.jsh_shell.specs.Serving.{Advances, AreOwn, Halts, IsOpen, WritesPart}
 
 pub state_after-append : (s : State) (xs ys : List Entry) → state_after s (xs ++ ys) ≡ state_after (state_after s xs) ys
 state_after-append s [] ys = refl
@@ -50,14 +51,24 @@ pub append_known-nothing : (held : Option (List ℕ)) → append_known held [] �
 append_known-nothing None = refl
 append_known-nothing (Some bytes) = ap Some (append-nil bytes)
 
+own_none : (client : ℕ) → AreOwn client []
+own_none client = All-nil (λ (e : Entry). e.client ≡ client)
+
+own_one : (client : ℕ) (what : Act) → AreOwn client (record { client = client; act = what } ∷ [])
+own_one client what = All-cons (λ (e : Entry). e.client ≡ client) (record { client = client; act = what }) [] refl (own_none client)
+
+own-append : (client : ℕ) (xs ys : List Entry) → AreOwn client xs → AreOwn client ys → AreOwn client (xs ++ ys)
+own-append client xs ys first rest = All-append (λ (e : Entry). e.client ≡ client) xs ys first rest
+
 pub advances-nothing : (budget client : ℕ) (history : List Entry) (held : Option (List ℕ)) (p : Progress) → Advances budget client history history held held p p
-advances-nothing budget client history held p = record { entries = []; grows = sym (append-nil history); follows = refl; written = sym (append_known-nothing held) }
+advances-nothing budget client history held p = record { entries = []; grows = sym (append-nil history); own = own_none client; follows = refl; written = sym (append_known-nothing held) }
 
 pub advances-append : (budget client : ℕ) (a b c : List Entry) (x y z : Option (List ℕ)) (p m q : Progress) →
     Advances budget client a b x y p m → Advances budget client b c y z m q → Advances budget client a c x z p q
 advances-append budget client a b c x y z p m q first rest = record {
   entries = first.entries ++ rest.entries;
   grows = rest.grows ∙ ap (λ h. h ++ rest.entries) first.grows ∙ append_assoc a first.entries rest.entries;
+  own = own-append client first.entries rest.entries first.own rest.own;
   follows = follows-append budget client (state_of a) p m q first.entries rest.entries first.follows
       (subst (λ (s : State). Follows budget client s m rest.entries q) state rest.follows);
   written = rest.written ∙ ap (λ h. append_known h (transcript_after client (state_of b) rest.entries)) first.written
@@ -77,6 +88,7 @@ pub advances-halts : (why : Halt) (budget client : ℕ) (a b c : List Entry) (x 
 advances-halts why budget client a b c x y z p m q first rest = record {
   entries = first.entries ++ rest.entries;
   grows = rest.grows ∙ ap (λ h. h ++ rest.entries) first.grows ∙ append_assoc a first.entries rest.entries;
+  own = own-append client first.entries rest.entries first.own rest.own;
   follows = follows-append budget client (state_of a) p m q first.entries rest.entries first.follows
       (subst (λ (s : State). Follows budget client s m rest.entries q) state rest.follows);
   count = length one + rest.count;
@@ -132,6 +144,7 @@ pub advances-one : (budget client : ℕ) (history after : List Entry) (held now 
 advances-one budget client history after held now p q what said grows goes says written = record {
   entries = record { client = client; act = what } ∷ [];
   grows = grows;
+  own = own_one client what;
   follows = (q, goes, refl);
   written = written ∙ ap (append_known held) (sym says);
 }
@@ -147,6 +160,7 @@ pub halts-one : (why : Halt) (budget client : ℕ) (history after : List Entry) 
 halts-one why budget client history after held now p q what said count grows goes says written whole limit phase here = record {
   entries = record { client = client; act = what } ∷ [];
   grows = grows;
+  own = own_one client what;
   follows = (q, goes, refl);
   count = count;
   written = written ∙ ap (λ t. append_known held (take count t)) (sym says);
@@ -163,6 +177,7 @@ pub halts-here : (why : Halt) (budget client : ℕ) (history : List Entry) (held
 halts-here why budget client history held p limit phase here = record {
   entries = [];
   grows = sym (append-nil history);
+  own = own_none client;
   follows = refl;
   count = 0;
   written = sym (append_known-nothing held);

@@ -1,6 +1,6 @@
 -- What a call on the engine and the sink of a client has brought about.
 use Rattle.std.specs.Prelude.{◌≡◌, ℕ, ◌<◌, ◌≤◌, Bool, true, false, List, [], ◌∷◌, ◌++◌, ◌⊎◌, ◌≢◌, IfSome, Option, None, Some, length, take, slice_get}
-use Rattle.std.specs.List.{list_any}
+use Rattle.std.specs.List.{All, list_any}
 use Rattle.std.specs.Io.KnownBytes.{append_known, prepend_known}
 use Rattle.jsh_io.specs.Count.{Rose}
 use Rattle.jsh_snippet.specs.declared.acts.Entry.{Entry}
@@ -29,10 +29,11 @@ pub record IsOpen (client : ℕ) (history : List Entry) : Type 0 where
   -- each thread has a state
   pub states : length (state_of history).world.states ≡ length (state_of history).world.threads
 
--- the client stands between two commands, and these are left
+-- the client stands between two commands, at no limit, and these are left
 pub record IsBetween (s : State) (commands : List Command) (p : Progress) : Type 0 where
   pub phase : p.phase ≡ Between
   pub left : p.commands ≡ commands
+  pub limited : p.limited ≡ false
   pub has_left : p.has_left ≡ false
   pub last_turn : p.last_turn ≤ length s.world.threads
 
@@ -57,17 +58,24 @@ pub record IsTaken (s : State) (client run : ℕ) (commands : List Command) (p :
   pub thread_is : numbered s.world.threads main ≡ Some thread
   pub returned : thread.returned ≡ Some text
 
--- New entries take the client from one progress to another, and it is written what is said to them.
+-- these entries are the client's own
+abbrev pub AreOwn : ℕ → List Entry → Type 0
+AreOwn client entries = All (λ (entry : Entry). entry.client ≡ client) entries
+
+-- New entries of its own take the client from one progress to another, and it is written what is said to them.
 pub record Advances (budget client : ℕ) (before after : List Entry) (held_before held_after : Option (List ℕ)) (p q : Progress) : Type 0 where
   pub entries : List Entry
   pub grows : after ≡ before ++ entries
+  pub own : AreOwn client entries
   pub follows : Follows budget client (state_of before) p entries q
   pub written : held_after ≡ append_known held_before (transcript_after client (state_of before) entries)
 
--- New entries take the client to where it is served no further, and it is written what is said to them, or a part of it.
+-- New entries of its own take the client to where it is served no further, and it is written what is said to them, or
+-- a part of it.
 pub record Halts (why : Halt) (budget client : ℕ) (before after : List Entry) (held_before held_after : Option (List ℕ)) (p q : Progress) : Type 0 where
   pub entries : List Entry
   pub grows : after ≡ before ++ entries
+  pub own : AreOwn client entries
   pub follows : Follows budget client (state_of before) p entries q
   pub count : ℕ
   pub written : held_after ≡ append_known held_before (take count (transcript_after client (state_of before) entries))
@@ -146,20 +154,25 @@ abbrev pub IsRunFresh : State → ℕ → Option ℕ → Type 0
 IsRunFresh s client None = Unit {0}
 IsRunFresh s client (Some run) = IsFresh s client run
 
--- how the serving of a client ended: its input has ended, a read failed, it has read all that it may, or it was served no further
+-- the status of a client that is served no further
 abbrev pub status_of : Halt → ℕ
 status_of halt.NoMemory = 5
 status_of halt.Limit = 6
 status_of halt.SinkFailed = 4
 
+-- how the serving of a client ended: its input has ended, a read failed, it has read all that it may, or it was served no further
+abbrev pub Ends : ℕ → ℕ → List Entry → List Entry → Option (List ℕ) → Option (List ℕ) → List ℕ → Bool → Type 0 → Type 0 → Type 0
+Ends client status before after held_before held_after read ended failed_read failed_write =
+    ((status ≡ 0) × (ended ≡ true) × (length read < most_input) × Serves client before after held_before held_after (commands read ended))
+    ⊎ ((status ≡ 3) × (ended ≡ false) × (length read < most_input) × failed_read × Serves client before after held_before held_after (commands read ended))
+    ⊎ ((status ≡ 6) × (ended ≡ false) × (length read ≡ most_input) × Serves client before after held_before held_after (commands read ended))
+    ⊎ ((why : Halt) × (status ≡ status_of why) × (why ≡ halt.SinkFailed → failed_write) × ServesPart why client before after held_before held_after (commands read ended))
+
 -- What a client had read, and what of it was served.
-pub record IsServedBy (client status : ℕ) (before after : List Entry) (left_before left_after held_before held_after : Option (List ℕ)) : Type 0 where
+pub record IsServedBy (client status : ℕ) (before after : List Entry) (left_before left_after held_before held_after : Option (List ℕ)) (failed_read failed_write : Type 0) : Type 0 where
   pub read : List ℕ
   pub ended : Bool
   pub reads : left_before ≡ prepend_known read left_after
   pub all_read : ended ≡ true → IfSome left_after (λ rest. rest ≡ [])
   pub few : length read ≤ most_input
-  pub outcome : ((status ≡ 0) × (ended ≡ true) × Serves client before after held_before held_after (commands read ended))
-      ⊎ ((status ≡ 3) × (ended ≡ false) × Serves client before after held_before held_after (commands read ended))
-      ⊎ ((status ≡ 6) × (ended ≡ false) × (length read ≡ most_input) × Serves client before after held_before held_after (commands read ended))
-      ⊎ ((why : Halt) × (status ≡ status_of why) × ServesPart why client before after held_before held_after (commands read ended))
+  pub outcome : Ends client status before after held_before held_after read ended failed_read failed_write

@@ -1,6 +1,7 @@
-ghost use Rattle.std.specs.Prelude.{◌≡◌, ℕ, ◌^◌, ◌++◌, ◌∷◌, [], ◌<◌, ◌↔◌, ◌⊎◌, List, Option, Some, IfSome, IsSomeAnd, OnErr, OnOk, length, vec_len, vec_capacity};
+ghost use Rattle.std.specs.Prelude.{◌≡◌, ℕ, ◌^◌, ◌++◌, ◌∷◌, [], ◌<◌, ◌≤◌, ◌↔◌, ◌⊎◌, List, Option, Some, IfSome, IsNone, IsSomeAnd, OnErr, OnOk, length, vec_len, vec_capacity};
 ghost use Rattle.std.specs.List.{All};
 ghost use Rattle.jsh_snippet.specs.declared.acts.Act.TheVariants as act;
+ghost use Rattle.jsh_io.specs.Count.{Rose};
 ghost use Rattle.jsh_io.specs.Inputs.{IsEmptyWhereTold};
 ghost use Rattle.jsh_core.specs.History.{Allows, IsLegal};
 ghost use Rattle.jsh_shell.specs.Budget.{default_budget};
@@ -77,6 +78,7 @@ pub fn report_without<I, O>(
     ensures status { result.status ≡ status }
     ensures journal { result.journal.items ≡ journal.items }
     ensures clients { result.clients.items ≡ clients.items }
+    ensures no_file { IsNone result.journal_sink × (result.journal_status ≡ 0) }
 {
     Report {
         status,
@@ -103,8 +105,11 @@ pub fn serve_client<I: Source + Drop, O: Sink + Drop, L: Ledger>(
     requires empty { IsEmptyWhereTold (O.held sink) }
     ensures legal { IsLegal result.journal.items }
     ensures served { All (λ r. (r.number ≡ 1) × (r.status ≡ result.status)
-        × IsServed default_budget r.number r.status result.journal.items (I.left source) (I.left r.source) (O.held r.sink)) result.clients.items }
+        × IsServed default_budget r.number r.status result.journal.items (I.left source) (I.left r.source) (O.held r.sink)
+        (Rose (I.faults source) (I.faults r.source)) (Rose (O.faults sink) (O.faults r.sink))) result.clients.items }
     ensures alone { (result.clients.items ≡ []) → (result.status ≡ 5) }
+    ensures one { length result.clients.items ≤ 1 }
+    ensures no_file { IsNone result.journal_sink × (result.journal_status ≡ 0) }
     ensures framed { (result.journal.items ≡ []) ⊎ IsFramed (length result.clients.items) result.journal.items }
 {
     let mut core = match Core::new(alloc) {

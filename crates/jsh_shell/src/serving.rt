@@ -145,7 +145,8 @@ pub fn serve_pieces<I: Source, O: Sink, L: Ledger>(
 ) -> u8
     requires open { IsOpen client core.old }
     requires piece { length buffer.old ≡ PIECE }
-    ensures served { IsServedBy client result core.old core.new (I.left source.old) (I.left source.new) (O.held sink.old) (O.held sink.new) }
+    ensures served { IsServedBy client result core.old core.new (I.left source.old) (I.left source.new) (O.held sink.old) (O.held sink.new)
+        (Rose (I.faults source.old) (I.faults source.new)) (Rose (O.faults sink.old) (O.faults sink.new)) }
     ensures open { IsOpen client core.new }
 {
     let mut held = Vec::new(alloc);

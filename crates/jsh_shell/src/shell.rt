@@ -1,11 +1,11 @@
-ghost use Rattle.std.specs.Prelude.{◌≡◌, ◌≢◌, [], ℕ, ◌<◌, ◌⊎◌, List, Option, Some, IfSome, IsSomeAnd, length, vec_len, vec_capacity};
+ghost use Rattle.std.specs.Prelude.{◌≡◌, ◌≢◌, [], ℕ, ◌<◌, ◌≤◌, ◌⊎◌, List, Option, Some, IfSome, IsNone, IsSomeAnd, length, vec_len, vec_capacity};
 ghost use Rattle.std.specs.List.{All};
 ghost use Rattle.std.specs.Io.KnownBytes.{append_known};
 ghost use Rattle.jsh_io.specs.Count.{Rose, TakesPart};
 ghost use Rattle.jsh_io.specs.Inputs.{IsEmptyWhereTold};
 ghost use Rattle.jsh_core.specs.History.{IsLegal};
 ghost use Rattle.jsh_shell.specs.Budget.{default_budget};
-ghost use Rattle.jsh_shell.specs.Journal.{IsFramed, IsServed};
+ghost use Rattle.jsh_shell.specs.Journal.{IsFramed, IsServed, IsUsage};
 
 use crate::client::{push_report, report_without, serve_client};
 use crate::reports::{ClientReport, Report};
@@ -40,8 +40,11 @@ fn serve_counted<I: Source + Drop, O: Sink + Drop, L: Ledger>(
     requires some { 0 < L.parts }
     ensures legal { IsLegal result.journal.items }
     ensures served { All (λ r. (r.number ≡ 1) × (r.status ≡ result.status)
-        × IsServed default_budget r.number r.status result.journal.items (I.left source) (I.left r.source) (O.held r.sink)) result.clients.items }
+        × IsServed default_budget r.number r.status result.journal.items (I.left source) (I.left r.source) (O.held r.sink)
+        (Rose (I.faults source) (I.faults r.source)) (Rose (O.faults sink) (O.faults r.sink))) result.clients.items }
     ensures alone { (result.clients.items ≡ []) → (result.status ≡ 5) }
+    ensures one { length result.clients.items ≤ 1 }
+    ensures no_file { IsNone result.journal_sink × (result.journal_status ≡ 0) }
     ensures framed { (result.journal.items ≡ []) ⊎ IsFramed (length result.clients.items) result.journal.items }
 {
     let mut steps = Steps::<L>::open(blank);
@@ -60,8 +63,11 @@ fn serve_standard<I: Source + Drop, O: Sink + Drop>(
     requires empty { IsEmptyWhereTold (O.held sink) }
     ensures legal { IsLegal result.journal.items }
     ensures served { All (λ r. (r.number ≡ 1) × (r.status ≡ result.status)
-        × IsServed default_budget r.number r.status result.journal.items (I.left source) (I.left r.source) (O.held r.sink)) result.clients.items }
+        × IsServed default_budget r.number r.status result.journal.items (I.left source) (I.left r.source) (O.held r.sink)
+        (Rose (I.faults source) (I.faults r.source)) (Rose (O.faults sink) (O.faults r.sink))) result.clients.items }
     ensures alone { (result.clients.items ≡ []) → (result.status ≡ 5) }
+    ensures one { length result.clients.items ≤ 1 }
+    ensures no_file { IsNone result.journal_sink × (result.journal_status ≡ 0) }
     ensures framed { (result.journal.items ≡ []) ⊎ IsFramed (length result.clients.items) result.journal.items }
 {
     let mut buffer = match vec![in alloc; 0u8; PIECE] {
@@ -85,6 +91,7 @@ fn refuse<I: Source + Drop, O: Sink + Drop>(
     ensures usage { All (λ r. (r.number ≡ 0) × (r.status ≡ 2) × ((O.held r.sink ≡ append_known (O.held sink) USAGE.now)
         ⊎ (TakesPart (O.held sink) (O.held r.sink) USAGE.now × Rose (O.faults sink) (O.faults r.sink)))) result.clients.items }
     ensures one { length result.clients.items ≡ 1 }
+    ensures no_file { IsNone result.journal_sink × (result.journal_status ≡ 0) }
 {
     let mut sink = sink;
     let _ = write_whole(&mut sink, USAGE.as_bytes());
@@ -101,6 +108,61 @@ fn refuse<I: Source + Drop, O: Sink + Drop>(
     report_without(2, Vec::new(alloc), clients)
 }
 
+/// Refuses the words, over the standard streams where they can be opened.
+#[tactic(none)]
+fn refuse_words<D: Desk>(
+    alloc: Global,
+    desk: &mut D,
+    clients: Vec<ClientReport<D::In, D::Out>>,
+) -> Report<D::In, D::Out>
+    requires none { clients.items ≡ [] }
+    requires room { vec_len clients < vec_capacity clients }
+    ensures journal { result.journal.items ≡ [] }
+    ensures status { result.status ≡ 2 }
+    ensures usage { All (λ r. (r.number ≡ 0) × (r.status ≡ 2)
+        × IsUsage (D.Out.held r.sink) USAGE.now (Rose 0 (D.Out.faults r.sink))) result.clients.items }
+    ensures alone { (result.clients.items ≡ []) → Rose (D.input_faults desk.old) (D.input_faults desk.new) }
+    ensures one { length result.clients.items ≤ 1 }
+    ensures no_file { IsNone result.journal_sink × (result.journal_status ≡ 0) }
+{
+    let (source, sink) = match desk.standard() {
+        Ok(streams) => streams,
+        Err(_failed) => return report_without(2, Vec::new(alloc), clients),
+    };
+    refuse(alloc, source, sink, clients)
+}
+
+/// Serves the one client, where the standard streams can be opened.
+#[tactic(none)]
+fn serve_desk<D: Desk>(
+    alloc: Global,
+    desk: &mut D,
+    clients: Vec<ClientReport<D::In, D::Out>>,
+) -> Report<D::In, D::Out>
+    requires none { clients.items ≡ [] }
+    requires room { vec_len clients < vec_capacity clients }
+    ensures legal { IsLegal result.journal.items }
+    ensures framed { (result.journal.items ≡ []) ⊎ IsFramed (length result.clients.items) result.journal.items }
+    ensures served { All (λ r. (r.number ≡ 1) × (r.status ≡ result.status) × ((given : Option (List ℕ))
+        × IfSome (D.inputs desk.old) (λ all. IsSomeAnd all.standard (λ bytes. given ≡ Some bytes))
+        × IsServed default_budget r.number r.status result.journal.items given (D.In.left r.source) (D.Out.held r.sink)
+        (Rose 0 (D.In.faults r.source)) (Rose 0 (D.Out.faults r.sink)))) result.clients.items }
+    ensures alone { (result.clients.items ≡ []) →
+        ((result.status ≡ 3) × Rose (D.input_faults desk.old) (D.input_faults desk.new)) ⊎ (result.status ≡ 5) }
+    ensures healthy { (Rose (D.input_faults desk.old) (D.input_faults desk.new) → ⊥)
+        → All (λ r. (Rose 0 (D.In.faults r.source) → ⊥) × (Rose 0 (D.Out.faults r.sink) → ⊥)) result.clients.items
+        → (result.status ≡ 0) ⊎ (result.status ≡ 6) ⊎ (result.status ≡ 5) }
+    ensures accepted { result.status ≢ 2 }
+    ensures one { length result.clients.items ≤ 1 }
+    ensures no_file { IsNone result.journal_sink × (result.journal_status ≡ 0) }
+{
+    let (source, sink) = match desk.standard() {
+        Ok(streams) => streams,
+        Err(_failed) => return report_without(3, Vec::new(alloc), clients),
+    };
+    serve_standard(alloc, source, sink, clients)
+}
+
 /// Serves clients over one engine, and reports what they came to and the one journal. So far there is
 /// one client, over the standard streams, and the words have to be empty.
 ///
@@ -113,34 +175,49 @@ pub fn run<R: Threads + Wait + Sync, D: Desk, G: Gate>(
     desk: &mut D,
     _gate: &G,
 ) -> Report<D::In, D::Out>
-    // The journal is legal. Where it isn't empty, client 0 enters the clients first and closes last.
+    // The journal is legal. Where it isn't empty, client 0 enters the clients first and closes last,
+    // and between stand the clients' own entries.
     ensures legal { IsLegal result.journal.items }
     ensures framed { (result.journal.items ≡ []) ⊎ IsFramed (length result.clients.items) result.journal.items }
+    ensures one { length result.clients.items ≤ 1 }
 
-    // Each client's entries follow its commands, and it is written its transcript over the journal.
+    // Each client's entries follow its commands, it is written its transcript over the journal, and its
+    // status has its cause.
     ensures served { words.now ≡ [] → All (λ r. (r.number ≡ 1) × (r.status ≡ result.status) × ((given : Option (List ℕ))
         × IfSome (D.inputs desk.old) (λ all. IsSomeAnd all.standard (λ bytes. given ≡ Some bytes))
-        × IsServed default_budget r.number r.status result.journal.items given (D.In.left r.source) (D.Out.held r.sink))) result.clients.items }
+        × IsServed default_budget r.number r.status result.journal.items given (D.In.left r.source) (D.Out.held r.sink)
+        (Rose 0 (D.In.faults r.source)) (Rose 0 (D.Out.faults r.sink)))) result.clients.items }
+
+    // Over a desk and streams that don't fail, the input is read to its end, or a limit or want of
+    // memory comes.
+    ensures healthy { words.now ≡ [] → (Rose (D.input_faults desk.old) (D.input_faults desk.new) → ⊥)
+        → All (λ r. (Rose 0 (D.In.faults r.source) → ⊥) × (Rose 0 (D.Out.faults r.sink) → ⊥)) result.clients.items
+        → (result.status ≡ 0) ⊎ (result.status ≡ 6) ⊎ (result.status ≡ 5) }
 
     // Without a client, the streams could not be opened, or memory was wanting.
-    ensures alone { (result.clients.items ≡ []) → ((result.status ≡ 3) × Rose (D.input_faults desk.old) (D.input_faults desk.new)) ⊎ (result.status ≡ 5) }
+    ensures alone { (result.clients.items ≡ []) →
+        (Rose (D.input_faults desk.old) (D.input_faults desk.new)
+        × (words.now ≡ [] → result.status ≡ 3) × (words.now ≢ [] → result.status ≡ 2))
+        ⊎ (result.status ≡ 5) }
 
-    // Refused words: the usage line is written, and nothing else is done.
+    // Refused words: the usage line is written, and nothing is journalled.
     ensures refused { words.now ≢ [] → result.journal.items ≡ [] }
-    ensures usage { words.now ≢ [] → All (λ r. (r.number ≡ 0) × (r.status ≡ 2) × (result.status ≡ 2)) result.clients.items }
+    ensures refused_status { words.now ≢ [] → (result.status ≡ 2) ⊎ (result.status ≡ 5) }
+    ensures accepted_status { words.now ≡ [] → result.status ≢ 2 }
+    ensures usage { words.now ≢ [] → All (λ r. (r.number ≡ 0) × (r.status ≡ 2) × (result.status ≡ 2)
+        × IsUsage (D.Out.held r.sink) USAGE.now (Rose 0 (D.Out.faults r.sink))) result.clients.items }
+
+    // No file is opened for the journal so far.
+    ensures no_file { IsNone result.journal_sink × (result.journal_status ≡ 0) }
 {
     let clients = match Vec::with_capacity(alloc, 1) {
         Ok(clients) => clients,
         Err(_refused) => return report_without(5, Vec::new(alloc), Vec::new(alloc)),
     };
-    let (source, sink) = match desk.standard() {
-        Ok(streams) => streams,
-        Err(_failed) => return report_without(3, Vec::new(alloc), clients),
-    };
     if words.is_empty() {
-        serve_standard(alloc, source, sink, clients)
+        serve_desk(alloc, desk, clients)
     } else {
-        refuse(alloc, source, sink, clients)
+        refuse_words(alloc, desk, clients)
     }
 }
 

@@ -22,7 +22,7 @@ returns-then-is_limit-clause-never_falls g c = c.in-Ok.ensures.never_falls
 
 pub returns-else-is_limit-clause-ok : goal.returns-else-is_limit-clause-ok
 returns-else-is_limit-clause-ok g c =
-    rw c.run_of.ensures (hands-in _ _ _ _ _ _ c.in-Ok.reply c.requires.open c.in-Ok.ensures.ok)
+    rw c.run_of.ensures (hands-in _ _ _ _ _ _ c.in-Ok.reply c.requires.open c.in-Ok.ensures.ok (sym c.is_limit.ensures ∙ c.if-is_limit.false))
 
 pub returns-else-is_limit-clause-fresh : goal.returns-else-is_limit-clause-fresh
 returns-else-is_limit-clause-fresh g c =

@@ -4,6 +4,7 @@ use Rattle.std.specs.Io.KnownBytes.{prepend_known}
 use Rattle.jsh_lines.specs.Lines.{evals}
 use Rattle.jsh_shell.specs.Budget.{most_input}
 use Rattle.jsh_shell.specs.Serving.{Serves, ServesPart}
+use Rattle.jsh_shell.proofs.ServeLemmas.{rose-earlier, sink-rose}
 use Rattle.jsh_shell.proofs.ReadLemmas.{IsReading, reading-start, reading-more, served-failed, served-most, served-whole, served-part-end, served-part-piece, uncut-held}
 use Rattle.jsh_shell.proofs.serving.serve_pieces.Goals as goal
 
@@ -13,6 +14,8 @@ pieces-init g c = record {
   few = omega arith;
   reading = subst (λ (h : List ℕ). IsReading c.args.client c.args.core.now c.args.core.now (g.I.Source.left c.args.source.now) (g.I.Source.left c.args.source.now) (g.O.Sink.held c.args.sink.now) (g.O.Sink.held c.args.sink.now) h 0)
       (sym c.new-held.ensures.items) (reading-start _ _ _ _);
+  source_counts = omega arith;
+  sink_counts = omega arith;
 }
 
 pub overflow_sub-total : goal.overflow_sub-total
@@ -25,7 +28,8 @@ pub read_some-requires-clause-fits : goal.read_some-requires-clause-fits
 read_some-requires-clause-fits g c = omega (arith, c.min-room.ensures, c.pieces.auto.buffer, c.requires.piece)
 
 pub returns-in-Err-clause-served : goal.returns-in-Err-clause-served
-returns-in-Err-clause-served g c = served-failed _ _ _ _ _ _ _ _ c.pieces.held.items c.pieces.total c.pieces.invariant.reading c.in-Err.ensures.none_lost c.pieces.invariant.few
+returns-in-Err-clause-served g c = served-failed _ _ _ _ _ _ _ _ _ _ c.pieces.held.items c.pieces.total c.pieces.invariant.reading c.in-Err.ensures.none_lost c.pieces-test.true
+    (rose-earlier _ _ _ c.pieces.invariant.source_counts c.in-Err.ensures.never_falls c.in-Err.ensures.failed)
 
 pub returns-in-Err-clause-open : goal.returns-in-Err-clause-open
 returns-in-Err-clause-open g c = c.pieces.invariant.open
@@ -36,9 +40,9 @@ serve_line-requires g c = c.pieces.invariant.open
 pub returns-in-Ok-serve_line-clause-served : goal.returns-in-Ok-serve_line-clause-served
 returns-in-Ok-serve_line-clause-served g c =
     let none : c.in-Ok.count ≡ 0 = c.if-count-eq0.true in
-    served-whole _ _ _ _ _ _ _ _ _ _ c.pieces.held.items c.pieces.total c.pieces.invariant.reading
+    served-whole _ _ _ _ _ _ _ _ _ _ _ _ c.pieces.held.items c.pieces.total c.pieces.invariant.reading
     (c.in-Ok.ensures.bytes ∙ ap (λ n. prepend_known (take n c.read_some.new.buffer) (g.I.Source.left c.read_some.new.source)) none)
-    (c.in-Ok.ensures.end (ap Ok none)) c.pieces.invariant.few
+    (c.in-Ok.ensures.end (ap Ok none)) c.pieces-test.true
     (subst (λ (line : List ℕ). Serves c.args.client c.pieces.core c.serve_line.new.core (g.O.Sink.held c.pieces.sink) (g.O.Sink.held c.serve_line.new.sink) (evals (line ∷ []))) c.as_slice.ensures.value c.in-Ok-serve_line.ensures.ok)
 
 pub returns-in-Ok-serve_line-clause-open : goal.returns-in-Ok-serve_line-clause-open
@@ -47,9 +51,10 @@ returns-in-Ok-serve_line-clause-open g c = c.in-Ok-serve_line.ensures.open
 pub returns-in-Err-serve_line-clause-served : goal.returns-in-Err-serve_line-clause-served
 returns-in-Err-serve_line-clause-served g c =
     let none : c.in-Ok.count ≡ 0 = c.if-count-eq0.true in
-    served-part-end c.in-Err-serve_line.why _ c.status.result _ _ _ _ _ _ _ _ _ c.pieces.held.items c.pieces.total c.pieces.invariant.reading
+    served-part-end _ _ c.in-Err-serve_line.why _ c.status.result _ _ _ _ _ _ _ _ _ c.pieces.held.items c.pieces.total c.pieces.invariant.reading
     (c.in-Ok.ensures.bytes ∙ ap (λ n. prepend_known (take n c.read_some.new.buffer) (g.I.Source.left c.read_some.new.source)) none)
     (c.in-Ok.ensures.end (ap Ok none)) c.pieces.invariant.few c.status.ensures
+    (λ e. rose-earlier _ _ _ c.pieces.invariant.sink_counts c.in-Err-serve_line.ensures.never_falls (sink-rose c.in-Err-serve_line.why _ _ c.in-Err-serve_line.ensures.cause e))
     (subst (λ (line : List ℕ). ServesPart c.in-Err-serve_line.why c.args.client c.pieces.core c.serve_line.new.core (g.O.Sink.held c.pieces.sink) (g.O.Sink.held c.serve_line.new.sink) (evals (line ∷ []))) c.as_slice.ensures.value c.in-Err-serve_line.ensures.err)
 
 pub returns-in-Err-serve_line-clause-open : goal.returns-in-Err-serve_line-clause-open
@@ -73,8 +78,9 @@ pub returns-in-Err-serve_piece-clause-served : goal.returns-in-Err-serve_piece-c
 returns-in-Err-serve_piece-clause-served g c =
     let within : c.in-Ok.count ≤ length c.read_some.new.buffer = omega (arith, c.in-Ok.ensures.bound, c.min-room.ensures, c.read_some.auto.buffer, c.pieces.auto.buffer, c.requires.piece) in
     let few : c.pieces.total + length (take c.in-Ok.count c.read_some.new.buffer) ≤ most_input = omega (arith, within, length-take c.in-Ok.count c.read_some.new.buffer, c.in-Ok.ensures.bound, c.min-room.ensures, c.pieces.invariant.few) in
-    served-part-piece c.in-Err-serve_piece.why _ c.status-in-Err-serve_piece.result _ _ _ _ _ _ _ _ _ c.pieces.held.items (take c.in-Ok.count c.read_some.new.buffer) c.pieces.total c.pieces.invariant.reading
-    c.in-Ok.ensures.bytes few c.status-in-Err-serve_piece.ensures c.in-Err-serve_piece.ensures.err
+    served-part-piece _ _ c.in-Err-serve_piece.why _ c.status-in-Err-serve_piece.result _ _ _ _ _ _ _ _ _ c.pieces.held.items (take c.in-Ok.count c.read_some.new.buffer) c.pieces.total c.pieces.invariant.reading
+    c.in-Ok.ensures.bytes few c.status-in-Err-serve_piece.ensures
+    (λ e. rose-earlier _ _ _ c.pieces.invariant.sink_counts c.in-Err-serve_piece.ensures.never_falls (sink-rose c.in-Err-serve_piece.why _ _ c.in-Err-serve_piece.ensures.cause e)) c.in-Err-serve_piece.ensures.err
 
 pub returns-in-Err-serve_piece-clause-open : goal.returns-in-Err-serve_piece-clause-open
 returns-in-Err-serve_piece-clause-open g c = c.in-Err-serve_piece.ensures.open
@@ -98,12 +104,14 @@ pieces-preserved g c =
       few = omega (arith, c.in-Ok.ensures.bound, c.min-room.ensures, c.pieces.invariant.few);
       reading = reading-more _ _ _ _ _ _ _ _ _ _ c.pieces.held.items (take c.in-Ok.count c.read_some.new.buffer) _ c.pieces.total (c.pieces.total + c.in-Ok.count) c.pieces.invariant.reading
           c.in-Ok.ensures.bytes long c.in-Ok-serve_piece.ensures.ok c.in-Ok-serve_piece.ensures.held;
+      source_counts = omega (arith, c.pieces.invariant.source_counts, c.in-Ok.ensures.never_falls);
+      sink_counts = omega (arith, c.pieces.invariant.sink_counts, c.in-Ok-serve_piece.ensures.never_falls);
     }
 
 pub returns-clause-served : goal.returns-clause-served
 returns-clause-served g c =
     let full : c.pieces.total ≡ most_input = omega (arith, c.pieces-test.false, c.pieces.invariant.few) in
-    served-most _ _ _ _ _ _ _ c.pieces.held.items c.pieces.total c.pieces.invariant.reading full
+    served-most _ _ _ _ _ _ _ _ _ c.pieces.held.items c.pieces.total c.pieces.invariant.reading full
 
 pub returns-clause-open : goal.returns-clause-open
 returns-clause-open g c = c.pieces.invariant.open

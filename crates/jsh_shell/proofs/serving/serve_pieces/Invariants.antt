@@ -10,6 +10,8 @@ invariant-pieces g l = record {
   «open» : IsOpen l.client l.core;
   few : l.total ≤ most_input;
   reading : IsReading l.client l.initial.core l.core (g.I.Source.left l.initial.source) (g.I.Source.left l.source) (g.O.Sink.held l.initial.sink) (g.O.Sink.held l.sink) l.held.items l.total;
+  source_counts : g.I.Source.faults l.initial.source ≤ g.I.Source.faults l.source;
+  sink_counts : g.O.Sink.faults l.initial.sink ≤ g.O.Sink.faults l.sink;
 }
 
 abbrev pub decreases-pieces : goal.decreases-pieces
