@@ -5,3 +5,4 @@ pub mod ServeLemmas
 pub mod PieceLemmas
 pub mod ReadLemmas
 pub mod RunLemmas
+pub mod OneWay

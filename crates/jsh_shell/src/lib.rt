@@ -6,9 +6,11 @@ mod acts;
 mod client;
 mod evaluation;
 mod halts;
+mod laws;
 mod reports;
 mod serving;
 mod shell;
 
+pub use laws::one_way;
 pub use reports::{ClientReport, Report};
 pub use shell::{USAGE, run};
