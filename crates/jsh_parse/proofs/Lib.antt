@@ -14,6 +14,14 @@ pub mod FormLemmas
 pub mod StatementParts
 pub mod StatementForms
 pub mod StatementSound
+pub mod Tokens
+pub mod Types
+pub mod Onward
+pub mod Passing
+pub mod Rooms
+pub mod Turns
+pub mod Pieced
+pub mod AllTokens
 pub mod StatementFronts
 pub mod StatementEdges
 pub mod StatementSteps

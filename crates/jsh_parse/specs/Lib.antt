@@ -5,4 +5,5 @@ pub mod Grammar
 pub mod Statements
 pub mod Forms
 pub mod Reader
+pub mod Reading
 pub mod StatementReader
