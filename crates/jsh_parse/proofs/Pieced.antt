@@ -1,13 +1,14 @@
 -- Small facts that the answers of the parser share.
-use Rattle.std.proofs.Common.{◌≡◌, ℕ, zero, suc, ◌+◌, ◌-◌, ◌<◌, Bool, true, false, ◌&&◌, not, List, [], ◌∷◌, Option, Some, None, length, drop, refl, sym, ap, ◌∙◌, arith}
+use Rattle.std.proofs.Common.{◌≡◌, ℕ, zero, suc, ◌+◌, ◌-◌, ◌<◌, Bool, true, false, ◌&&◌, not, List, [], ◌∷◌, Option, Some, None, length, drop, refl, sym, ap, ◌∙◌, arith, length-drop}
 use Rattle.std.specs.Prelude.{option_map}
 use Rattle.jsh_tree.specs.declared.token.Token.{Token}
+use Rattle.jsh_tree.specs.declared.token.TokenKind.{TokenKind}
 use Rattle.jsh_tree.specs.declared.expression.Literal.{Literal}
 use Rattle.jsh_tree.specs.declared.expression.Expr.{Expr}
 use Rattle.jsh_tree.specs.declared.expression.Expr.TheVariants as tree
 use Rattle.jsh_parse.specs.Leaves.{literal_of}
 use Rattle.jsh_parse.specs.Marks.{is_left_brace, is_right_brace, is_comma}
-use Rattle.jsh_parse.specs.Reader.{accept, sees}
+use Rattle.jsh_parse.specs.Reader.{Read, accept, sees}
 use Rattle.jsh_parse.specs.Reading.{primary_at, braces_at, behind_value}
 use Rattle.jsh_parse.proofs.Onward.{primary_literal}
 use Rattle.jsh_parse.proofs.Rooms.{braces_empty}
@@ -68,3 +69,28 @@ value_end tokens at t h k l m =
   where
     closed : (ts : List Token) → sees is_right_brace ts ≡ true → behind_value (t ∷ ts) ≡ Some (false, drop 1 ts)
     closed ts m = rw (k, l, m)
+
+accepted : (test : TokenKind → Bool) (ts rest : List Token) (t : Token) → accept test ts ≡ Some (t, rest) → length ts ≡ suc (length rest)
+accepted test [] rest t h = cc
+accepted test (u ∷ us) rest t h = at (test u.kind) refl
+  where
+    behind : Read Token → List Token
+    behind None = us
+    behind (Some found) = found.1
+
+    at : (b : Bool) → test u.kind ≡ b → length (u ∷ us) ≡ suc (length rest)
+    at true k = let same : us ≡ rest = ap behind (sym (taken k) ∙ h) in ap (λ (ts : List Token). suc (length ts)) same
+      where
+        taken : test u.kind ≡ true → accept test (u ∷ us) ≡ Some (u, us)
+        taken k = rw k
+    at false k = let none : ◌≡◌ {A = Read Token} None (Some (t, rest)) = sym (left k) ∙ h in cc
+      where
+        left : test u.kind ≡ false → accept test (u ∷ us) ≡ None
+        left k = rw k
+
+-- a token that is taken is left behind
+pub goes_forward : (test : TokenKind → Bool) (tokens : List Token) (at behind : ℕ) (t : Token) → accept test (drop at tokens) ≡ Some (t, drop behind tokens) → at < behind
+goes_forward test tokens at behind t h =
+    let lengths : length tokens - at ≡ suc (length tokens - behind) =
+    sym (length-drop at tokens) ∙ accepted test (drop at tokens) (drop behind tokens) t h ∙ ap suc (length-drop behind tokens) in
+    omega arith

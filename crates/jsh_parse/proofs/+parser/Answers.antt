@@ -10,7 +10,7 @@ use Rattle.jsh_parse.proofs.Onward.{prepend, expr_fails, expr_stays, expr_unfit,
 use Rattle.jsh_parse.proofs.Rooms.{expr_flat, expr_assigns, branches_flat, branches_by, level_zero, level_suc, arguments_flat, arguments_open, arguments_empty, arguments_listed, size_flat, size_by, braces_flat, braces_values, unary_flat, unary_prefixed, cast_flat, cast_by, enclosed_flat, enclosed_by, part_flat, part_index}
 use Rattle.jsh_parse.proofs.Passing.{hands_on, out_of_memory, too_deep, refuses, as_read, next}
 use Rattle.jsh_parse.proofs.Turns.{turn_fails, turn_ends, turn_goes_on, turns_end}
-use Rattle.jsh_parse.proofs.Pieced.{both_true, first_false, second_false, left_and_pair, no_literal, primary_tree, braces_end, left_not_pair, left_turn}
+use Rattle.jsh_parse.proofs.Pieced.{both_true, first_false, second_false, left_and_pair, no_literal, primary_tree, braces_end, left_not_pair, left_turn, goes_forward}
 use Rattle.jsh_parse.proofs.+parser.Goals as goal
 use Rattle.jsh_parse.proofs.+parser.Goals.{expression::unary-else-is_left_paren-via-then-is_left_paren+else-is_cast, expression::unary-else-is_left_paren-via-else-is_left_paren, list::size-then-not-sees_left_bracket-via-then-not-sees_left_bracket, list::size-then-not-sees_left_bracket-via-else-not-sees_left_bracket+then-sees_brackets}
 
@@ -439,3 +439,6 @@ list::size-returns-in_err-size-clause-value t c = hands_on c.args.input.now.toke
 
 pub list::size-returns-clause-value : goal.list::size-returns-clause-value
 list::size-returns-clause-value t c = (omega (arith, c.in_ok-behind.ensures.0, c.in_ok-size.ensures.0), size_by c.args.input.now.text.now c.args.room (drop c.args.at c.args.input.now.tokens.now) c.in_ok-inner.inner c.in_ok-behind.field-0-0 (drop c.in_ok-behind.behind c.args.input.now.tokens.now) c.in_ok-inner.ensures (left_not_pair (sym c.if-not-sees_left_bracket.ensures) (sym c.if-sees_brackets.ensures.value)) c.in_ok-behind.ensures.1 ∙ simp (c.in_ok-size.ensures.1, c.into_inner.ensures))
+
+pub list::size-returns-clause-forward : goal.list::size-returns-clause-forward
+list::size-returns-clause-forward t c = let moved = goes_forward is_left_bracket c.args.input.now.tokens.now c.args.at c.in_ok-behind.behind c.in_ok-behind.field-0-0 c.in_ok-behind.ensures.1 in omega (arith, moved, c.in_ok-size.ensures.0)
