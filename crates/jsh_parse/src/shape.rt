@@ -272,11 +272,11 @@ fn call(
     out.push_str(front)?;
     name(out, called)?;
     out.push_str("(")?;
-    let mut between = "";
-    for argument in arguments {
-        out.push_str(between)?;
+    for (place, argument) in arguments.iter().enumerate() {
+        if place > 0 {
+            out.push_str(", ")?;
+        }
         write(out, argument, left - 1)?;
-        between = ", ";
     }
     out.push_str(")")
 }
@@ -300,14 +300,14 @@ fn initials(out: &mut String, values: &[Initial], left: u32) -> Result<(), Alloc
         return Ok(());
     }
     out.push_str("{")?;
-    let mut between = "";
-    for value in values {
-        out.push_str(between)?;
+    for (place, value) in values.iter().enumerate() {
+        if place > 0 {
+            out.push_str(", ")?;
+        }
         match value {
             Initial::Value(value) => write(out, value, left - 1)?,
             Initial::Array { values, .. } => initials(out, values.as_slice(), left - 1)?,
         }
-        between = ", ";
     }
     out.push_str("}")
 }

@@ -249,8 +249,12 @@ fn a_long_run_is_one_node(rt: HostRuntime) -> Result<(), Fail> {
     for _ in 0..32767 {
         text.push_str("+1")?;
     }
-    match read(&rt, rt.alloc(), text.as_str()) {
-        Ok(Expr::Binary { rest, .. }) => assert_eq!(rt; rest.len(), 32767),
+    let tree = match read(&rt, rt.alloc(), text.as_str()) {
+        Ok(tree) => tree,
+        Err(error) => return Err(Fail::from("a text is refused")),
+    };
+    match &tree {
+        Expr::Binary { rest, .. } => assert_eq!(rt; rest.len(), 32767),
         _ => assert!(rt; false, "no run"),
     }
     Ok(())
