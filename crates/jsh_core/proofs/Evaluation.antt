@@ -3,13 +3,12 @@ use Rattle.std.proofs.Common.{◌≡◌, ℕ, zero, suc, ◌+◌, ◌-◌, ◌<�
 use Rattle.std.specs.List.{slice_get}
 use Rattle.std.specs.Option.{option_map_or}
 use Rattle.std.specs.Fmt.{signed_decimal}
-use Rattle.jsh_tree.specs.declared.tree.Tree.{Tree}
-use Rattle.jsh_tree.specs.declared.tree.Tree.TheVariants as tree
 use Rattle.jsh_tree.specs.declared.tree.Sum.{Sum}
 use Rattle.jsh_text.specs.declared.value.Value.TheVariants as value
 use Rattle.jsh_snippet.specs.declared.records.Record.{Record}
 use Rattle.jsh_sched.specs.declared.ThreadState.TheVariants as thread_state
 use Rattle.jsh_sched.specs.ThreadState.{is_ready}
+use Rattle.jsh_sum.specs.Sum.{value_of}
 use Rattle.jsh_core.specs.declared.world.Thread.{Thread}
 use Rattle.jsh_core.specs.declared.world.Frame.{Frame}
 use Rattle.jsh_core.specs.declared.world.Run.{Run}
@@ -23,7 +22,7 @@ use Rattle.jsh_core.specs.State.{State, World, Stepped, numbered, refuses}
 use Rattle.jsh_core.specs.Snippets.{accepted, accepted_record, rejected, judged, submitted, verdict, alive_count, temporary_name, run_of}
 use Rattle.jsh_core.specs.Runs.{collect, collect_run, own_run}
 use Rattle.jsh_core.proofs.WorldLemmas.{numbered-push}
-use Rattle.jsh_core.specs.Threads.{can_go_on, stepped, turned, performed, tree_of, tree_value}
+use Rattle.jsh_core.specs.Threads.{can_go_on, stepped, turned, performed, sum_of}
 use Rattle.jsh_core.specs.Threads.Next.{Sets}
 use Rattle.jsh_core.proofs.TurnLemmas.{turned-zero, turned-suc, turned-stuck, further, stepped-returns}
 
@@ -31,12 +30,12 @@ use Rattle.jsh_core.proofs.TurnLemmas.{turned-zero, turned-suc, turned-stuck, fu
 pub record IsFresh (s : State) (client run : ℕ) : Type 0 where
   pub main : ℕ
   pub snippet : ℕ
-  pub body : Tree
+  pub body : Sum
   pub newest : main ≡ length s.world.threads
   pub run_is : numbered s.world.runs run ≡ Some (record { owner = client; main = main; snippet = snippet; gone = false })
   pub thread_is : numbered s.world.threads main ≡ Some (record { owner = client; steps = 0; frame = Some (record { snippet = snippet; answers = 0 }); returned = None })
   pub state_is : numbered s.world.states main ≡ Some thread_state.Ready
-  pub tree_is : tree_of s.book snippet ≡ Some body
+  pub sum_is : sum_of s.book snippet ≡ Some body
 
 slice_get-set : {A : Type 0} (items : List A) (i : ℕ) (old item : A) → slice_get items i ≡ Some old → slice_get (set items i item) i ≡ Some item
 slice_get-set [] i old item e = cc
@@ -52,38 +51,42 @@ numbered-set items number old item there = from (number == 0) there
     from false e = slice_get-set items (number - 1) old item e
 
 -- the first step of a body sets its variable
-pub stepped-sets : (book : List Record) (w : World) (number : ℕ) (t : Thread) (frame : Frame) (body : Tree) → numbered w.threads number ≡ Some t →
-    t.frame ≡ Some frame → tree_of book frame.snippet ≡ Some body → frame.answers ≡ 0 →
-    stepped book w number ≡ performed w number t frame (Sets (tree_value body))
+pub stepped-sets : (book : List Record) (w : World) (number : ℕ) (t : Thread) (frame : Frame) (body : Sum) → numbered w.threads number ≡ Some t →
+    t.frame ≡ Some frame → sum_of book frame.snippet ≡ Some body → frame.answers ≡ 0 →
+    stepped book w number ≡ performed w number t frame (Sets (value_of body))
 stepped-sets book w number t frame body there running snippet first = rw (there, running, snippet, first) refl
 
--- what a fresh run comes to in one turn
-pub record IsEvaluated (s : State) (client main : ℕ) (body : Tree) : Type 0 where
-  pub after : World
-  pub turn : turned s.book main 256 s.world ≡ record { world = after; steps = 2 }
-  pub same : turned s.book main 2 s.world ≡ record { world = after; steps = 2 }
-  pub runs : after.runs ≡ s.world.runs
-  pub count : length after.threads ≡ length s.world.threads
-  pub thread : numbered after.threads main ≡ Some (record { owner = client; steps = 2; frame = None; returned = Some (signed_decimal (tree_value body)) })
-  pub stuck : can_go_on after main ≡ false
+-- the text that a body returns
+abbrev pub body_text : Sum → List ℕ
+body_text body = signed_decimal (value_of body)
 
 -- the thread between its two steps, and behind them
 abbrev thread_between : ℕ → ℕ → Thread
 thread_between client snippet = record { owner = client; steps = 1; frame = Some (record { snippet = snippet; answers = 1 }); returned = None }
 
-abbrev thread_behind : ℕ → Tree → Thread
-thread_behind client body = record { owner = client; steps = 2; frame = None; returned = Some (signed_decimal (tree_value body)) }
+abbrev pub thread_behind : ℕ → Sum → Thread
+thread_behind client body = record { owner = client; steps = 2; frame = None; returned = Some (body_text body) }
+
+-- what a fresh run comes to in one turn
+pub record IsEvaluated (s : State) (client main : ℕ) (body : Sum) : Type 0 where
+  pub after : World
+  pub turn : turned s.book main 256 s.world ≡ record { world = after; steps = 2 }
+  pub same : turned s.book main 2 s.world ≡ record { world = after; steps = 2 }
+  pub runs : after.runs ≡ s.world.runs
+  pub count : length after.threads ≡ length s.world.threads
+  pub thread : numbered after.threads main ≡ Some (thread_behind client body)
+  pub stuck : can_go_on after main ≡ false
 
 -- the world after each of the two steps
-abbrev world_between : World → ℕ → ℕ → ℕ → Tree → World
+abbrev world_between : World → ℕ → ℕ → ℕ → Sum → World
 world_between w client main snippet body = record w {
-  cells = set w.cells (snippet - 1) (Some (value.Int (tree_value body)));
+  cells = set w.cells (snippet - 1) (Some (value.Int (value_of body)));
   threads = set w.threads (main - 1) (thread_between client snippet);
 }
 
-abbrev world_behind : World → ℕ → ℕ → ℕ → Tree → World
+abbrev world_behind : World → ℕ → ℕ → ℕ → Sum → World
 world_behind w client main snippet body = record w {
-  cells = set w.cells (snippet - 1) (Some (value.Int (tree_value body)));
+  cells = set w.cells (snippet - 1) (Some (value.Int (value_of body)));
   states = set w.states (main - 1) thread_state.Ended;
   threads = set (set w.threads (main - 1) (thread_between client snippet)) (main - 1) (thread_behind client body);
 }
@@ -119,10 +122,10 @@ evaluated s client run f = record {
     over = rw (numbered-set s.world.states f.main thread_state.Ready thread_state.Ended f.state_is) refl
 
     one : stepped s.book s.world f.main ≡ world_between s.world client f.main f.snippet f.body
-    one = stepped-sets s.book s.world f.main _ (record { snippet = f.snippet; answers = 0 }) f.body f.thread_is refl f.tree_is refl
+    one = stepped-sets s.book s.world f.main _ (record { snippet = f.snippet; answers = 0 }) f.body f.thread_is refl f.sum_is refl
 
     two : stepped s.book (world_between s.world client f.main f.snippet f.body) f.main ≡ world_behind s.world client f.main f.snippet f.body
-    two = stepped-returns s.book (world_between s.world client f.main f.snippet f.body) f.main (thread_between client f.snippet) (record { snippet = f.snippet; answers = 1 }) f.body (sym there) refl (sym f.tree_is) refl
+    two = stepped-returns s.book (world_between s.world client f.main f.snippet f.body) f.main (thread_between client f.snippet) (record { snippet = f.snippet; answers = 1 }) f.body (sym there) refl (sym f.sum_is) refl
 
 -- an accepted snippet has a fresh run
 pub accepted-fresh : (s : State) (client : ℕ) (source : List ℕ) (sum : Sum) → length s.world.states ≡ length s.world.threads →
@@ -130,12 +133,12 @@ pub accepted-fresh : (s : State) (client : ℕ) (source : List ℕ) (sum : Sum) 
 accepted-fresh s client source sum fits = record {
   main = length s.world.threads + 1;
   snippet = length s.book + 1;
-  body = tree.Sum sum;
+  body = sum;
   newest = sym (length-append s.world.threads _);
   run_is = numbered-push s.world.runs _ _ refl;
   thread_is = numbered-push s.world.threads _ _ refl;
   state_is = numbered-push s.world.states _ _ (ap (λ n. n + 1) (sym fits));
-  tree_is = rw (numbered-push s.book (length s.book + 1) (accepted_record (length s.book + 1) source sum) refl) refl;
+  sum_is = rw (numbered-push s.book (length s.book + 1) (accepted_record (length s.book + 1) source sum) refl) refl;
 }
 
 -- what is known of the reply to a snippet and of the state after it

@@ -3,7 +3,6 @@ use Rattle.std.proofs.Common.{◌≡◌, ◌≢◌, ◌↔◌, ℕ, zero, suc, �
 use Rattle.std.specs.List.{slice_get}
 use Rattle.std.specs.Option.{option_and_then, option_map}
 use Rattle.std.proofs.lemmas.Bool.{eqb-true, eqb-false, cases_eq}
-use Rattle.jsh_tree.specs.declared.tree.Tree.{Tree}
 use Rattle.jsh_tree.specs.declared.tree.Sum.{Sum}
 use Rattle.jsh_snippet.specs.declared.acts.Act.{Act}
 use Rattle.jsh_snippet.specs.declared.acts.Act.TheVariants as act
@@ -18,7 +17,7 @@ use Rattle.jsh_core.specs.declared.world.Run.{Run}
 use Rattle.jsh_core.specs.declared.world.RunView.{RunView}
 use Rattle.jsh_core.specs.State.{State, Stepped, World, answer, numbered, opening, refuses}
 use Rattle.jsh_core.specs.Snippets.{accepted, alive_count, judged, run_of, submitted, verdict}
-use Rattle.jsh_core.specs.Threads.{Next, body_step, can_go_on, frame_step, next, performed, stepped, thread_step, tree_of, turned, Turned}
+use Rattle.jsh_core.specs.Threads.{Next, body_step, can_go_on, frame_step, next, performed, stepped, sum_of, thread_step, turned, Turned}
 use Rattle.jsh_core.specs.Threads.Next.{Sets, Returns}
 use Rattle.jsh_core.specs.Runs.{collect_run, dropped, handed_out, is_thread_alive, own_run, returned_text, run_view, standing, view_of}
 use Rattle.jsh_core.specs.Clients.{enter}
@@ -235,13 +234,13 @@ performed-runs : (w : World) (number : ℕ) (thread : Thread) (frame : Frame) (w
 performed-runs w number thread frame (Sets v) = refl
 performed-runs w number thread frame (Returns text) = refl
 
-body-runs : (w : World) (number : ℕ) (thread : Thread) (frame : Frame) (found : Option Tree) → (body_step w number thread frame found).runs ≡ w.runs
+body-runs : (w : World) (number : ℕ) (thread : Thread) (frame : Frame) (found : Option Sum) → (body_step w number thread frame found).runs ≡ w.runs
 body-runs w number thread frame None = refl
 body-runs w number thread frame (Some body) = performed-runs w number thread frame (next body frame.answers)
 
 frame-runs : (book : List Record) (w : World) (number : ℕ) (thread : Thread) (found : Option Frame) → (frame_step book w number thread found).runs ≡ w.runs
 frame-runs book w number thread None = refl
-frame-runs book w number thread (Some frame) = body-runs w number thread frame (tree_of book frame.snippet)
+frame-runs book w number thread (Some frame) = body-runs w number thread frame (sum_of book frame.snippet)
 
 thread-runs : (book : List Record) (w : World) (number : ℕ) (found : Option Thread) → (thread_step book w number found).runs ≡ w.runs
 thread-runs book w number None = refl

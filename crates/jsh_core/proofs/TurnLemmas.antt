@@ -2,12 +2,13 @@
 use Rattle.std.proofs.Common.{◌≡◌, ℕ, suc, zero, ◌+◌, ◌-◌, ◌≤◌, Bool, true, false, List, refl, ap, ◌∙◌, sym, subst, arith, add-zero, add-one, zero-add, Some, ◌==◌, if◌then◌else◌}
 use Rattle.std.proofs.Math.Nat.{le_refl}
 use Rattle.std.specs.Fmt.{signed_decimal}
-use Rattle.jsh_tree.specs.declared.tree.Tree.{Tree}
+use Rattle.jsh_tree.specs.declared.tree.Sum.{Sum}
 use Rattle.jsh_snippet.specs.declared.records.Record.{Record}
+use Rattle.jsh_sum.specs.Sum.{value_of}
 use Rattle.jsh_core.specs.declared.world.Thread.{Thread}
 use Rattle.jsh_core.specs.declared.world.Frame.{Frame}
 use Rattle.jsh_core.specs.State.{World, numbered}
-use Rattle.jsh_core.specs.Threads.{can_go_on, stepped, turned, Turned, performed, tree_of, tree_value}
+use Rattle.jsh_core.specs.Threads.{can_go_on, stepped, turned, Turned, performed, sum_of}
 use Rattle.jsh_core.specs.Threads.Next.{Returns}
 
 -- as many steps more
@@ -73,9 +74,9 @@ GoesOn-stuck book number done most first now within stuck h =
     last = rw zero-add refl
 
 -- a step after the first answer returns the text of the value
-pub stepped-returns : (book : List Record) (w : World) (number : ℕ) (t : Thread) (frame : Frame) (body : Tree) → Some t ≡ numbered w.threads number →
-    t.frame ≡ Some frame → Some body ≡ tree_of book frame.snippet → (frame.answers == 0) ≡ false →
-    stepped book w number ≡ performed w number t frame (Returns (signed_decimal (tree_value body)))
+pub stepped-returns : (book : List Record) (w : World) (number : ℕ) (t : Thread) (frame : Frame) (body : Sum) → Some t ≡ numbered w.threads number →
+    t.frame ≡ Some frame → Some body ≡ sum_of book frame.snippet → (frame.answers == 0) ≡ false →
+    stepped book w number ≡ performed w number t frame (Returns (signed_decimal (value_of body)))
 stepped-returns book w number t frame body there running snippet later = rw (← there, running, ← snippet, later) refl
 
 -- a turn does no more steps than it may

@@ -1,7 +1,6 @@
 -- What a snippet is, and what its submission changes.
 use Rattle.std.specs.Prelude.{ℕ, ◌+◌, List, [], ◌∷◌, ◌++◌, Option, None, Some, length, true, false, if◌then◌else◌, nat_le, pos, codes, decimal}
 use Rattle.std.specs.List.{count_by}
-use Rattle.jsh_tree.specs.declared.tree.Tree.TheVariants as tree
 use Rattle.jsh_tree.specs.declared.tree.Sum.{Sum}
 use Rattle.jsh_tree.specs.declared.diagnostic.Code.TheVariants as code
 use Rattle.jsh_tree.specs.declared.diagnostic.Diagnostic.{Diagnostic}
@@ -22,7 +21,7 @@ use Rattle.jsh_sched.specs.ThreadState.{is_alive}
 use Rattle.jsh_sum.specs.Reading.{sum_of}
 use Rattle.jsh_core.specs.State.{State, Stepped, answer, refuses}
 
--- the tree of a source that is accepted, and None for one that is rejected: sums alone are in the language so far
+-- the sum of a source that is accepted, and None for one that is rejected: sums alone are in the language so far
 abbrev pub verdict : List ℕ → Option Sum
 verdict source = sum_of source
 
@@ -31,7 +30,7 @@ abbrev pub accepted_record : ℕ → List ℕ → Sum → Record
 accepted_record id source sum = record {
   id = id;
   source = source;
-  tree = Some (tree.Sum sum);
+  sum = Some sum;
   fixed = Some (record { name = codes "int"; dims = 0 });
   kind = Some kind.Var;
   fate = fate.Live;
@@ -40,7 +39,7 @@ accepted_record id source sum = record {
 -- the record of a snippet that is rejected
 abbrev pub rejected_record : ℕ → List ℕ → Record
 rejected_record id source =
-    record { id = id; source = source; tree = None; fixed = None; kind = Some kind.Erroneous; fate = fate.Rejected }
+    record { id = id; source = source; sum = None; fixed = None; kind = Some kind.Erroneous; fate = fate.Rejected }
 
 -- the name of a temporary variable: `$` and its snippet's number
 abbrev pub temporary_name : ℕ → List ℕ

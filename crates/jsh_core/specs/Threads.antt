@@ -2,8 +2,7 @@
 use Rattle.std.specs.Prelude.{ℕ, ◌+◌, ◌-◌, ◌==◌, zero, suc, List, Option, None, Some, Bool, false, if◌then◌else◌, slice_set, ℤ}
 use Rattle.std.specs.Option.{option_and_then, option_map_or}
 use Rattle.std.specs.Fmt.{signed_decimal}
-use Rattle.jsh_tree.specs.declared.tree.Tree.{Tree}
-use Rattle.jsh_tree.specs.declared.tree.Tree.TheVariants as tree
+use Rattle.jsh_tree.specs.declared.tree.Sum.{Sum}
 use Rattle.jsh_text.specs.declared.value.Value.TheVariants as value
 use Rattle.jsh_snippet.specs.declared.records.Record.{Record}
 use Rattle.jsh_snippet.specs.declared.replies.ReplyBody.TheVariants as body
@@ -19,13 +18,9 @@ pub data Next : Type 0 where
   Sets : ℤ → Next
   Returns : List ℕ → Next
 
--- the value of a snippet's tree
-abbrev pub tree_value : Tree → ℤ
-tree_value (tree.Sum sum) = value_of sum
-
 -- The body of a snippet, after so many answers: its value goes into the variable, and then the text of it is returned (JLS 15.18).
-abbrev pub next : Tree → ℕ → Next
-next body answers = if answers == 0 then Sets (tree_value body) else Returns (signed_decimal (tree_value body))
+abbrev pub next : Sum → ℕ → Next
+next body answers = if answers == 0 then Sets (value_of body) else Returns (signed_decimal (value_of body))
 
 -- what a thread with this number and this frame does to the world
 abbrev pub performed : World → ℕ → Thread → Frame → Next → World
@@ -41,17 +36,17 @@ performed w number thread frame (Returns text) = record w {
   threads = slice_set w.threads (number - 1) (record thread { steps = thread.steps + 1; frame = None; returned = Some text });
 }
 
--- the tree of the snippet with this number
-abbrev pub tree_of : List Record → ℕ → Option Tree
-tree_of book id = option_and_then (λ (r : Record). r.tree) (numbered book id)
+-- the sum of the snippet with this number
+abbrev pub sum_of : List Record → ℕ → Option Sum
+sum_of book id = option_and_then (λ (r : Record). r.sum) (numbered book id)
 
-abbrev pub body_step : World → ℕ → Thread → Frame → Option Tree → World
+abbrev pub body_step : World → ℕ → Thread → Frame → Option Sum → World
 body_step w number thread frame None = w
 body_step w number thread frame (Some body) = performed w number thread frame (next body frame.answers)
 
 abbrev pub frame_step : List Record → World → ℕ → Thread → Option Frame → World
 frame_step book w number thread None = w
-frame_step book w number thread (Some frame) = body_step w number thread frame (tree_of book frame.snippet)
+frame_step book w number thread (Some frame) = body_step w number thread frame (sum_of book frame.snippet)
 
 abbrev pub thread_step : List Record → World → ℕ → Option Thread → World
 thread_step book w number None = w

@@ -11,7 +11,7 @@ use jsh_snippet::{
 };
 use jsh_sum::parse_sum;
 use jsh_text::{NoMemory, UText, print_unsigned};
-use jsh_tree::{Code, Diagnostic, Name, Seq, SrcText, Sum, Tree, TypeWritten};
+use jsh_tree::{Code, Diagnostic, Name, Seq, SrcText, Sum, TypeWritten};
 use std::alloc::Global;
 
 /// Records between two resets.
@@ -66,7 +66,7 @@ fn new_accepted_record(
     Ok(Record {
         id,
         source: source.clone()?,
-        tree: Some(Tree::Sum(sum)),
+        sum: Some(sum),
         fixed: Some(TypeWritten { name, dims: 0 }),
         kind: Some(Kind::Var),
         fate: Fate::Live,
@@ -79,7 +79,7 @@ fn new_rejected_record(id: u32, source: &SrcText) -> Result<Record, NoMemory>
     Ok(Record {
         id,
         source: source.clone()?,
-        tree: None,
+        sum: None,
         fixed: None,
         kind: Some(Kind::Erroneous),
         fate: Fate::Rejected,

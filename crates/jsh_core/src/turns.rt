@@ -5,7 +5,7 @@ ghost use Rattle.jsh_sched.specs.ThreadState.{is_alive};
 ghost use Rattle.jsh_core.specs.declared.world.Frame.{Frame};
 ghost use Rattle.jsh_core.specs.declared.world.Thread.{Thread};
 ghost use Rattle.jsh_core.specs.State.{numbered};
-ghost use Rattle.jsh_core.specs.Threads.{can_go_on, performed, stepped, tree_of, tree_value, turned};
+ghost use Rattle.jsh_core.specs.Threads.{can_go_on, performed, stepped, sum_of, turned};
 ghost use Rattle.jsh_core.specs.Threads.Next.{Returns, Sets};
 ghost use Rattle.jsh_core.specs.Parts.{world_of, IsWorld, StepsAtMost};
 
@@ -16,7 +16,7 @@ use jsh_sched::ThreadState;
 use jsh_snippet::Record;
 use jsh_sum::value_of;
 use jsh_text::{NoMemory, UText, Value, print_int};
-use jsh_tree::Tree;
+use jsh_tree::Sum;
 use std::alloc::Global;
 
 /// Want of memory in a turn. The steps that were done before stand.
@@ -35,22 +35,13 @@ pub fn is_ready_at(world: &WorldParts, number: u32) -> bool
     }
 }
 
-/// The tree of the snippet with this number.
-pub fn tree_at(book: &[Record], id: u32) -> Option<&Tree>
-    ensures { option_copied result ≡ tree_of book.now id }
+/// The sum of the snippet with this number.
+pub fn sum_at(book: &[Record], id: u32) -> Option<&Sum>
+    ensures { option_copied result ≡ sum_of book.now id }
 {
     match at_number(book, id) {
         None => None,
-        Some(found) => found.tree.as_ref(),
-    }
-}
-
-/// The value of a snippet's tree.
-fn value_of_tree(body: &Tree) -> i32
-    ensures { result ≡ tree_value body.now }
-{
-    match body {
-        Tree::Sum(sum) => value_of(sum),
+        Some(found) => found.sum.as_ref(),
     }
 }
 
@@ -109,10 +100,10 @@ fn step(world: &mut WorldParts, book: &[Record], alloc: Global, number: u32) -> 
     let Some(frame) = thread.frame else {
         return Ok(());
     };
-    let Some(body) = tree_at(book, frame.snippet) else {
+    let Some(body) = sum_at(book, frame.snippet) else {
         return Ok(());
     };
-    let value = value_of_tree(body);
+    let value = value_of(body);
     if frame.answers == 0 {
         set_variable(world, number, frame, value);
     } else {

@@ -2,7 +2,6 @@
 use Rattle.std.proofs.Common.{IsSome, IfSome, ◌≡◌, ◌≢◌, ℕ, ◌+◌, ◌<◌, ◌≤◌, true, false, List, [], ◌∷◌, ◌++◌, Option, None, Some, length, refl, ap, sym, subst, ◌∙◌, arith, eq-eqb, inl, inr, ◌⊎◌}
 use Rattle.std.proofs.lemmas.Bool.{ne_eqb}
 use Rattle.std.proofs.Math.Seq.{take-length}
-use Rattle.std.specs.Fmt.{signed_decimal}
 use Rattle.std.specs.Io.KnownBytes.{append_known}
 use Rattle.jsh_snippet.specs.declared.acts.Act.{Act}
 use Rattle.jsh_snippet.specs.declared.acts.Act.TheVariants as act
@@ -16,12 +15,12 @@ use Rattle.jsh_lines.specs.Lines.Command.{Eval}
 use Rattle.jsh_core.specs.declared.world.RunView.{RunView}
 use Rattle.jsh_core.specs.State.{State, numbered}
 use Rattle.jsh_core.specs.Snippets.{run_of, submitted}
-use Rattle.jsh_core.specs.Threads.{can_go_on, turned, tree_value}
+use Rattle.jsh_core.specs.Threads.{can_go_on, turned}
 use Rattle.jsh_core.specs.Runs.{collect, run_view}
 use Rattle.jsh_core.specs.Step.{step, kept, kept_act, done_steps}
 use Rattle.jsh_core.specs.History.{state_of}
 use Rattle.jsh_core.specs.Stands.{IsCutShort}
-use Rattle.jsh_core.proofs.Evaluation.{IsFresh, IsEvaluated, IsAnswered, KeepsThreads, evaluated, submitted-answered, collect-over, collect-keeps}
+use Rattle.jsh_core.proofs.Evaluation.{IsFresh, IsEvaluated, IsAnswered, KeepsThreads, evaluated, submitted-answered, collect-over, collect-keeps, body_text, thread_behind}
 use Rattle.jsh_core.proofs.Picking.{picked-main}
 use Rattle.jsh_shell.specs.declared.halts.Halt.{Halt}
 use Rattle.jsh_shell.specs.declared.halts.Halt.TheVariants as halt
@@ -247,11 +246,11 @@ turns client run history after reply f is kept_so = record {
       last_turn = subst (λ (s : State). f.main ≤ length s.world.threads) (sym state) enough;
       main = f.main;
       snippet = f.snippet;
-      thread = record { owner = client; steps = 2; frame = None; returned = Some (signed_decimal (tree_value f.body)) };
-      text = signed_decimal (tree_value f.body);
+      thread = thread_behind client f.body;
+      text = body_text f.body;
       run_is = subst (λ (s : State). numbered s.world.runs run ≡ Some (record { owner = client; main = f.main; snippet = f.snippet; gone = false })) (sym state)
           (ap (λ runs. numbered runs run) e.runs ∙ f.run_is);
-      thread_is = subst (λ (s : State). numbered s.world.threads f.main ≡ Some (record { owner = client; steps = 2; frame = None; returned = Some (signed_decimal (tree_value f.body)) })) (sym state) e.thread;
+      thread_is = subst (λ (s : State). numbered s.world.threads f.main ≡ Some (thread_behind client f.body)) (sym state) e.thread;
       returned = refl;
     },
   );

@@ -1,12 +1,12 @@
 -- A turn keeps the number of threads and of their states.
 use Rattle.std.proofs.Common.{◌≡◌, ℕ, zero, suc, List, Option, None, Some, length, refl, sym, subst, ◌∙◌, length-set, inl, inr}
 use Rattle.std.proofs.lemmas.Bool.{cases_Bool}
-use Rattle.jsh_tree.specs.declared.tree.Tree.{Tree}
+use Rattle.jsh_tree.specs.declared.tree.Sum.{Sum}
 use Rattle.jsh_snippet.specs.declared.records.Record.{Record}
 use Rattle.jsh_core.specs.declared.world.Thread.{Thread}
 use Rattle.jsh_core.specs.declared.world.Frame.{Frame}
 use Rattle.jsh_core.specs.State.{World, numbered}
-use Rattle.jsh_core.specs.Threads.{Next, can_go_on, performed, body_step, frame_step, thread_step, tree_of, next, stepped, turned, Turned}
+use Rattle.jsh_core.specs.Threads.{Next, can_go_on, performed, body_step, frame_step, thread_step, next, stepped, sum_of, turned, Turned}
 use Rattle.jsh_core.specs.Threads.Next.{Sets, Returns}
 use Rattle.jsh_core.proofs.TurnLemmas.{turned-zero, turned-suc, turned-stuck}
 
@@ -22,13 +22,13 @@ performed_length : (w : World) (number : ℕ) (thread : Thread) (frame : Frame) 
 performed_length w number thread frame (Sets v) = record { states = refl; threads = simp length-set }
 performed_length w number thread frame (Returns text) = record { states = simp length-set; threads = simp length-set }
 
-body_length : (w : World) (number : ℕ) (thread : Thread) (frame : Frame) (found : Option Tree) → IsAsLong w (body_step w number thread frame found)
+body_length : (w : World) (number : ℕ) (thread : Thread) (frame : Frame) (found : Option Sum) → IsAsLong w (body_step w number thread frame found)
 body_length w number thread frame None = same_length w
 body_length w number thread frame (Some body) = performed_length w number thread frame (next body frame.answers)
 
 frame_length : (book : List Record) (w : World) (number : ℕ) (thread : Thread) (found : Option Frame) → IsAsLong w (frame_step book w number thread found)
 frame_length book w number thread None = same_length w
-frame_length book w number thread (Some frame) = body_length w number thread frame (tree_of book frame.snippet)
+frame_length book w number thread (Some frame) = body_length w number thread frame (sum_of book frame.snippet)
 
 thread_length : (book : List Record) (w : World) (number : ℕ) (found : Option Thread) → IsAsLong w (thread_step book w number found)
 thread_length book w number None = same_length w

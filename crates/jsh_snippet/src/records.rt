@@ -1,5 +1,5 @@
 use crate::kinds::{Fate, Kind};
-use jsh_tree::{SrcText, Tree, TypeWritten};
+use jsh_tree::{SrcText, Sum, TypeWritten};
 
 /// A snippet that was submitted.
 #[derive(Clone, Debug, PartialEq, Eq, Drop)]
@@ -7,8 +7,8 @@ pub struct Record {
     /// The snippet's number, from 1 in the order of submission.
     pub id: u32,
     pub source: SrcText,
-    /// None where the source is no snippet.
-    pub tree: Option<Tree>,
+    /// The sum that the source is; None where it is none.
+    pub sum: Option<Sum>,
     /// The type of a temporary, or of a variable that was declared by `var`, as it was at the entry.
     pub fixed: Option<TypeWritten>,
     /// None only before the entry.
