@@ -1,0 +1,5 @@
+pub mod Classes
+pub mod Productions
+pub mod Fronts
+pub mod Leads
+pub mod Depths
