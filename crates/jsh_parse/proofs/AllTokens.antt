@@ -1,5 +1,5 @@
 -- What the parser reads of all tokens, in the words of the grammar.
-use Rattle.std.proofs.Common.{◌≡◌, ◌≢◌, ℕ, ◌+◌, ◌-◌, ◌<◌, ◌≤◌, List, [], ◌∷◌, Option, Some, None, length, drop, refl, sym, ap, ◌∙◌, arith, length-drop}
+use Rattle.std.proofs.Common.{◌≡◌, ◌≢◌, ℕ, ◌-◌, ◌<◌, ◌≤◌, List, [], ◌∷◌, Option, Some, None, length, drop, refl, sym, ap, ◌∙◌, arith, length-drop}
 use Rattle.std.specs.Prelude.{Result, Ok, Err, IfErr}
 use Rattle.std.specs.Result.{IsErrAnd}
 use Rattle.jsh_tree.specs.declared.token.Token.{Token}
@@ -7,13 +7,12 @@ use Rattle.jsh_tree.specs.declared.expression.Expr.{Expr}
 use Rattle.jsh_parse.specs.declared.error.ParseError.{ParseError}
 use Rattle.jsh_parse.specs.declared.error.ParseError.TheVariants as error
 use Rattle.jsh_parse.specs.Grammar.{IsExpr}
-use Rattle.jsh_parse.specs.Reader.{readers}
 use Rattle.jsh_parse.specs.Reading.{Reads, IsWanted, expr_at}
 use Rattle.jsh_parse.proofs.Onward.{inner_expr}
 use Rattle.jsh_parse.proofs.Sound.{sound_whole}
 use Rattle.jsh_parse.proofs.Complete.{complete-whole}
 
-at_end : (ts : List Token) (end : ℕ) → length ts ≤ end → drop end ts ≡ []
+pub at_end : (ts : List Token) (end : ℕ) → length ts ≤ end → drop end ts ≡ []
 at_end ts end h = empty (drop end ts) (length-drop end ts ∙ omega arith)
   where
     empty : (us : List Token) → length us ≡ 0 → us ≡ []

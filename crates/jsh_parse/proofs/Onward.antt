@@ -1,5 +1,5 @@
 -- How the readers go on, step by step, in the words of the parser's contracts.
-use Rattle.std.proofs.Common.{◌≡◌, ℕ, zero, suc, ◌+◌, ◌-◌, ◌==◌, Bool, true, false, not, ◌&&◌, if◌then◌else◌, List, [], ◌∷◌, ◌++◌, Option, Some, None, length, drop, refl, sym, ap, ◌∙◌, append_assoc}
+use Rattle.std.proofs.Common.{◌≡◌, ℕ, zero, suc, ◌-◌, ◌==◌, Bool, true, false, not, ◌&&◌, if◌then◌else◌, List, [], ◌∷◌, ◌++◌, Option, Some, None, length, drop, refl, sym, ap, ◌∙◌, append_assoc}
 use Rattle.jsh_tree.specs.declared.token.Token.{Token}
 use Rattle.jsh_tree.specs.declared.expression.BinaryOperator.{BinaryOperator}
 use Rattle.jsh_tree.specs.declared.expression.UnaryOperator.{UnaryOperator}
@@ -8,13 +8,12 @@ use Rattle.jsh_tree.specs.declared.expression.Literal.{Literal}
 use Rattle.jsh_tree.specs.declared.expression.Identifier.{Identifier}
 use Rattle.jsh_tree.specs.declared.expression.Expr.{Expr}
 use Rattle.jsh_tree.specs.declared.expression.Expr.TheVariants as tree
-use Rattle.jsh_tree.specs.declared.expression.Operation.{Operation}
 use Rattle.jsh_tree.specs.declared.expression.Operation.TheVariants as operation
 use Rattle.jsh_tree.specs.declared.expression.PathPart.{PathPart}
 use Rattle.jsh_tree.specs.declared.expression.PathPart.TheVariants as part
 use Rattle.jsh_tree.specs.declared.expression.Initial.{Initial}
 use Rattle.jsh_tree.specs.declared.expression.Initial.TheVariants as initial
-use Rattle.jsh_parse.specs.Operators.{binary_operator, level_of, comparison_level, assign_operator, unary_operator, postfix_operator}
+use Rattle.jsh_parse.specs.Operators.{binary_operator, level_of, comparison_level, unary_operator, postfix_operator}
 use Rattle.jsh_parse.specs.Leaves.{literal_of, identifier_of, names_type, type_of, is_target}
 use Rattle.jsh_parse.specs.Marks.{is_left_paren, is_right_paren, is_left_bracket, is_right_bracket, is_left_brace, is_right_brace, is_dot, is_comma, is_question, is_colon, is_identifier, is_instanceof, is_this, is_super, is_new}
 use Rattle.jsh_parse.specs.Reader as reader
@@ -181,12 +180,12 @@ pub prepend_none : {A : Type 0} (r : Read (List A)) → prepend [] r ≡ r
 prepend_none None = refl
 prepend_none (Some found) = refl
 
-prepend_one : {A : Type 0} (items : List A) (a : A) (r : Read (List A)) →
+pub prepend_one : {A : Type 0} (items : List A) (a : A) (r : Read (List A)) →
     prepend items (and_then r (λ more end. Some (a ∷ more, end))) ≡ prepend (items ++ a ∷ []) r
 prepend_one items a None = refl
 prepend_one items a (Some found) = ap (λ more. Some (more, found.1)) (sym (append_assoc items (a ∷ []) found.0))
 
-append_nil : {A : Type 0} (items : List A) → items ++ [] ≡ items
+pub append_nil : {A : Type 0} (items : List A) → items ++ [] ≡ items
 append_nil [] = refl
 append_nil (a ∷ items) = ap (λ more. a ∷ more) (append_nil items)
 
@@ -202,12 +201,12 @@ pub step_fails : {A : Type 0} (items : List A) (more : List Token → Read (List
     step ≡ None → prepend items (and_then step (further more)) ≡ None
 step_fails items more step h = rw h
 
-assoc : {A B C : Type 0} (r : Read A) (f : A → List Token → Read B) (g : B → List Token → Read C) →
+pub assoc : {A B C : Type 0} (r : Read A) (f : A → List Token → Read B) (g : B → List Token → Read C) →
     and_then (and_then r f) g ≡ and_then r (λ a rest. and_then (f a rest) g)
 assoc None f g = refl
 assoc (Some found) f g = refl
 
-same : {A B : Type 0} (r : Read A) (f g : A → List Token → Read B) → ((a : A) (rest : List Token) → f a rest ≡ g a rest) → and_then r f ≡ and_then r g
+pub same : {A B : Type 0} (r : Read A) (f g : A → List Token → Read B) → ((a : A) (rest : List Token) → f a rest ≡ g a rest) → and_then r f ≡ and_then r g
 same None f g h = refl
 same (Some found) f g h = h found.0 found.1
 

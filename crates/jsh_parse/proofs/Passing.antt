@@ -1,5 +1,5 @@
 -- How an answer of the parser follows from those of the functions that it calls.
-use Rattle.std.proofs.Common.{◌≡◌, ℕ, zero, suc, ◌+◌, ◌≤◌, List, ◌∷◌, Option, Some, None, length, drop, refl, sym, ap, subst, ◌∙◌}
+use Rattle.std.proofs.Common.{◌≡◌, ℕ, ◌+◌, ◌≤◌, List, None, drop, refl, sym, subst, ◌∙◌}
 use Rattle.std.proofs.Math.Nat.{le_trans}
 use Rattle.std.specs.Prelude.{Result, Ok, Err}
 use Rattle.std.specs.Result.{IsErrAnd}
@@ -50,3 +50,8 @@ as_read tokens a b X Y (Ok found) l e h = (le_trans l h.0, e ∙ h.1)
 as_read tokens a b X Y (Err error.NoMemory) l e h = tt
 as_read tokens a b X Y (Err (error.Wanted place wanted)) l e h = e ∙ h
 as_read tokens a b X Y (Err (error.TooDeep limit)) l e h = (e ∙ h.0, h.1)
+
+-- likewise, with the error first
+pub handed : {A B : Type 0} (tokens : List Token) (b : ℕ) (X : Read A) (Y : Read B) (e : ParseError) (r : Result (A × ℕ) ParseError) → IsErrAnd r (λ f. f ≡ e) →
+    Reads tokens b Y (Err e) → (Y ≡ None → X ≡ None) → Reads tokens b X r
+handed tokens b X Y e r same y h = hands_on tokens b b X Y e r same h y

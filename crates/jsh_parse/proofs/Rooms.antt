@@ -1,5 +1,5 @@
 -- The steps of the readers that need room, by how much room there is.
-use Rattle.std.proofs.Common.{◌≡◌, ℕ, zero, suc, ◌+◌, ◌-◌, Bool, true, false, not, ◌&&◌, List, [], ◌∷◌, ◌++◌, Option, Some, None, length, drop, refl, sym, ap, subst, ◌∙◌}
+use Rattle.std.proofs.Common.{◌≡◌, ℕ, zero, suc, true, false, not, ◌&&◌, List, [], ◌∷◌, Option, Some, None, drop, sym, ap, subst, ◌∙◌}
 use Rattle.jsh_tree.specs.declared.token.Token.{Token}
 use Rattle.jsh_tree.specs.declared.expression.BinaryOperator.{BinaryOperator}
 use Rattle.jsh_tree.specs.declared.expression.UnaryOperator.{UnaryOperator}

@@ -1,5 +1,5 @@
 -- The turns of a loop that takes one item after another.
-use Rattle.std.proofs.Common.{◌≡◌, ℕ, zero, suc, List, [], ◌∷◌, ◌++◌, Option, Some, None, refl, sym, ap, ◌∙◌}
+use Rattle.std.proofs.Common.{◌≡◌, ℕ, zero, suc, List, [], ◌∷◌, ◌++◌, Option, Some, None, ap, ◌∙◌}
 use Rattle.jsh_tree.specs.declared.token.Token.{Token}
 use Rattle.jsh_parse.specs.Reader.{Read, and_then}
 use Rattle.jsh_parse.proofs.Onward.{further, prepend, step_more, step_end, step_fails}

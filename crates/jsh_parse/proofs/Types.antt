@@ -1,11 +1,10 @@
 -- How the readers of brackets and types go on, and what a path ends in.
-use Rattle.std.proofs.Common.{◌≡◌, ℕ, zero, suc, ◌+◌, ◌-◌, ◌<◌, Bool, true, false, ◌&&◌, if◌then◌else◌, List, [], ◌∷◌, Option, Some, None, length, drop, get_or, refl, sym, ap, ◌∙◌, arith, rules, add-zero, add-suc}
-use Rattle.std.proofs.lemmas.Bool.{and_parts}
+use Rattle.std.proofs.Common.{◌≡◌, ℕ, suc, ◌-◌, ◌<◌, Bool, true, false, ◌&&◌, List, [], ◌∷◌, Some, length, drop, get_or, refl, sym, ap, ◌∙◌, arith}
 use Rattle.jsh_tree.specs.declared.token.Token.{Token}
 use Rattle.jsh_tree.specs.declared.expression.PathPart.{PathPart}
 use Rattle.jsh_parse.specs.Leaves.{names_type, type_of, ends_in_place}
-use Rattle.jsh_parse.specs.Marks.{is_left_bracket, is_right_bracket}
-use Rattle.jsh_parse.specs.Reader.{Read, and_then, accept, sees, sees_brackets, brackets, type_read}
+use Rattle.jsh_parse.specs.Marks.{is_left_bracket}
+use Rattle.jsh_parse.specs.Reader.{and_then, accept, sees_brackets, brackets, type_read}
 
 both_false : (b : Bool) → b && false ≡ true → true ≡ false
 both_false true h = sym h
@@ -41,12 +40,12 @@ type_by_name text (t ∷ ts) = at (names_type t.kind) refl
     at true h = rw h
     at false h = rw h
 
-at_last : {A : Type 0} (p q : A) (parts : List A) (last : A) → get_or (p ∷ q ∷ parts) (length (p ∷ q ∷ parts) - 1) last ≡ get_or (q ∷ parts) (length (q ∷ parts) - 1) last
+pub at_last : {A : Type 0} (p q : A) (parts : List A) (last : A) → get_or (p ∷ q ∷ parts) (length (p ∷ q ∷ parts) - 1) last ≡ get_or (q ∷ parts) (length (q ∷ parts) - 1) last
 at_last p q parts last =
     let one : suc (suc (length parts)) - 1 ≡ suc (suc (length parts) - 1) = omega arith in
     ap (λ k. get_or (p ∷ q ∷ parts) k last) one
 
-at_only : {A : Type 0} (p last : A) → get_or (p ∷ []) (length (p ∷ []) - 1) last ≡ p
+pub at_only : {A : Type 0} (p last : A) → get_or (p ∷ []) (length (p ∷ []) - 1) last ≡ p
 at_only p last = refl
 
 -- a path ends in what its last part is

@@ -7,3 +7,5 @@ pub mod Forms
 pub mod Reader
 pub mod Reading
 pub mod StatementReader
+pub mod StatementReading
+pub mod Tables

@@ -1,8 +1,10 @@
 -- What the functions of the parser promise: that they give what the readers give.
-use Rattle.std.specs.Prelude.{◌≡◌, ℕ, zero, suc, ◌+◌, ◌-◌, ◌<◌, ◌≤◌, ◌==◌, ◌&&◌, not, Bool, true, false, if◌then◌else◌, List, [], ◌∷◌, Option, Some, None, Result, Ok, Err, length, drop}
+use Rattle.std.specs.Prelude.{◌≡◌, ℕ, zero, suc, ◌+◌, ◌-◌, ◌≤◌, ◌==◌, ◌&&◌, not, Bool, true, false, if◌then◌else◌, List, [], ◌∷◌, ◌++◌, Option, Some, None, Result, Ok, Err, length, drop}
 use Rattle.std.specs.Str.{IsCharBoundary}
 use Rattle.std.specs.List.{slice_get}
 use Rattle.jsh_tree.specs.declared.token.Token.{Token}
+use Rattle.jsh_tree.specs.declared.token.TokenKind.TheVariants as token
+use Rattle.jsh_lex.specs.Spelling.{AreTokensBehind}
 use Rattle.jsh_parse.specs.declared.error.ParseError.{ParseError}
 use Rattle.jsh_parse.specs.declared.error.ParseError.TheVariants as error
 use Rattle.jsh_tree.specs.declared.expression.Identifier.{Identifier}
@@ -42,7 +44,7 @@ IsWanted (error.TooDeep limit) = ⊥
 
 -- a token lies in the text, between characters
 pub record IsWithin (text : List ℕ) (t : Token) : Type 0 where
-  pub ordered : t.span.from < t.span.to
+  pub ordered : t.span.from ≤ t.span.to
   pub within : t.span.to ≤ length text
   pub starts_between : IsCharBoundary text t.span.from
   pub ends_between : IsCharBoundary text t.span.to
@@ -50,6 +52,15 @@ pub record IsWithin (text : List ℕ) (t : Token) : Type 0 where
 -- each of the tokens does
 abbrev pub AreWithin : List ℕ → List Token → Type 0
 AreWithin text tokens = (k : ℕ) (t : Token) → slice_get tokens k ≡ Some t → IsWithin text t
+
+-- the semicolon that the end of a text may stand for: it has no byte
+abbrev pub semicolon_at_end : List ℕ → Token
+semicolon_at_end text = record { kind = token.Semicolon; span = record { from = length text; to = length text } }
+
+-- what a parser takes: tokens that stand in the text in their order, and perhaps the semicolon of its end behind them
+pub data AreTaken (text : List ℕ) : List Token → Type 0 where
+  spelled : (ts : List Token) → AreTokensBehind text 0 ts → AreTaken text ts
+  ended : (ts : List Token) → AreTokensBehind text 0 ts → AreTaken text (ts ++ semicolon_at_end text ∷ [])
 
 -- where the last token ends, or a place in front of all
 abbrev pub last_end : ℕ → List Token → ℕ

@@ -2,12 +2,11 @@
 
 ghost use Rattle.std.specs.Prelude.{◌≡◌, ◌∷◌, ◌+◌, ◌-◌, ◌^◌, ◌<◌, ◌≤◌, zero, suc, [], length, drop, IfSome, OnSome, MatchOption, MatchResult};
 ghost use Rattle.std.specs.Bool.{OnTrue};
-ghost use Rattle.jsh_lex.specs.Spelling.{AreTokensBehind};
 ghost use Rattle.jsh_parse.specs.declared.error.ParseError.TheVariants as error;
 ghost use Rattle.jsh_parse.specs.Marks as spec;
 ghost use Rattle.jsh_parse.specs.Reader as reader;
 ghost use Rattle.jsh_parse.specs.Reading as read;
-ghost use Rattle.jsh_parse.specs.Reading.{Reads, IsWithin, AreWithin, IsWanted};
+ghost use Rattle.jsh_parse.specs.Reading.{Reads, IsWithin, AreWithin, AreTaken, IsWanted};
 
 use crate::error::ParseError;
 use crate::marks::{
@@ -28,7 +27,7 @@ pub struct Input<'a> {
     pub text: &'a str,
     pub tokens: &'a [Token],
     ghost within: { AreWithin text.now tokens.now },
-    ghost few: { length tokens.now < 2 ^ 32 },
+    ghost few: { length tokens.now ≤ 2 ^ 32 },
 }
 
 /// Where the last token ends.
@@ -43,12 +42,12 @@ fn end_of(tokens: &[Token]) -> u32
 
 impl<'a> Input<'a> {
     pub fn new(alloc: Global, text: &'a str, tokens: &'a [Token]) -> Input<'a>
-        requires { AreTokensBehind text.now 0 tokens.now }
+        requires { AreTaken text.now tokens.now }
         ensures text { result.text.now ≡ text.now }
         ensures tokens { result.tokens.now ≡ tokens.now }
     {
-        // Each token has a byte, so a place can count them.
-        prove!(tokens.len() <= end_of(tokens) as usize);
+        // Each token but the last has a byte, so a place can nearly count them.
+        prove!(tokens.len() <= end_of(tokens) as usize + 1);
         Input {
             alloc,
             text,

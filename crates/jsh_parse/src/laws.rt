@@ -1,12 +1,17 @@
 //! What holds of the grammar itself.
 
 ghost use Rattle.std.specs.Prelude.{◌≡◌, ◌↔◌, Bool, List, [], ℕ, Some};
+ghost use Rattle.std.specs.Str.{IsUtf8};
 ghost use Rattle.jsh_tree.specs.declared.token.Token.{Token};
 ghost use Rattle.jsh_tree.specs.declared.expression.Expr.{Expr};
 ghost use Rattle.jsh_tree.specs.declared.statement.Stmt.{Stmt};
+ghost use Rattle.jsh_grammar.specs.Productions.{expression, statement};
+ghost use Rattle.jsh_grammar.specs.Fronts.{IsWhole};
 ghost use Rattle.jsh_parse.specs.Grammar.{IsExpr};
 ghost use Rattle.jsh_parse.specs.Statements.{IsStmt};
 ghost use Rattle.jsh_parse.specs.Reader.{readers};
+ghost use Rattle.jsh_parse.specs.Reading.{AreTaken};
+ghost use Rattle.jsh_parse.specs.Tables.{kinds};
 ghost use Rattle.jsh_parse.specs.StatementReader.{statement_readers};
 
 /// A list of tokens spells at most one expression.
@@ -28,4 +33,19 @@ pub fn expressions_are_decided()
 pub fn statements_are_decided()
     ensures read { (text : List ℕ) (room : ℕ) (ts : List Token) (s : Stmt) → (statement_readers text room).stmt ts ≡ Some (s, []) → (dangling : Bool) × IsStmt text room dangling ts s }
     ensures all { (text : List ℕ) (room : ℕ) (dangling : Bool) (ts : List Token) (s : Stmt) → IsStmt text room dangling ts s → (statement_readers text room).stmt ts ≡ Some (s, []) }
+{}
+
+/// The table of the grammar derives exactly the expressions: the kinds of their tokens, with as much room.
+pub fn expressions_are_in_the_table()
+    ensures derived { (text : List ℕ) (room : ℕ) (ts : List Token) (e : Expr) → IsExpr text room ts e → IsWhole expression room (kinds ts) }
+    // The tokens are those of a text, so that each literal has a value.
+    ensures spelled { (text : List ℕ) (room : ℕ) (ts : List Token) → IsUtf8 text → AreTaken text ts → IsWhole expression room (kinds ts) → (e : Expr) × IsExpr text room ts e }
+{}
+
+/// The table of the grammar derives exactly the statements: the kinds of their tokens, with as much
+/// room.
+pub fn statements_are_in_the_table()
+    ensures derived { (text : List ℕ) (room : ℕ) (dangling : Bool) (ts : List Token) (s : Stmt) → IsStmt text room dangling ts s → IsWhole statement room (kinds ts) }
+    // The tokens are those of a text, so that each literal has a value.
+    ensures spelled { (text : List ℕ) (room : ℕ) (ts : List Token) → IsUtf8 text → AreTaken text ts → IsWhole statement room (kinds ts) → (dangling : Bool) × (s : Stmt) × IsStmt text room dangling ts s }
 {}

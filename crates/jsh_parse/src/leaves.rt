@@ -70,7 +70,7 @@ fn value_of_kind(alloc: Global, kind: TokenKind, bytes: &str) -> Result<Option<L
 }
 
 /// The literal that a token is, where it is one.
-fn literal_of(input: &Input, token: Token) -> Result<Option<Literal>, AllocError>
+pub fn literal_of(input: &Input, token: Token) -> Result<Option<Literal>, AllocError>
     requires { IsWithin input.now.text.now token }
     ensures { IfOk result (λ literal. literal ≡ spec.literal_of input.now.text.now token) }
 {
@@ -126,6 +126,7 @@ pub fn identifier(input: &Input, at: usize) -> Result<(Identifier, usize), Parse
 pub fn type_name(input: &Input, at: usize) -> Result<(Token, usize), ParseError>
     ensures value { Reads input.now.tokens.now at (reader.accept spec.names_type (drop at input.now.tokens.now)) result }
     ensures within { IfOk result (λ found. IsWithin input.now.text.now found.0) }
+    ensures forward { IfOk result (λ found. at < found.1) }
 {
     match input.token(at) {
         Some(token) if names_type(token.kind) => Ok((token, at + 1)),

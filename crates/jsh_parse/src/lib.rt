@@ -1,37 +1,63 @@
-//! The parser of expressions: exactly the grammar, with at most 256 constructs in one another. Of
-//! statements the grammar stands, and the parser is still to come.
+//! The parser of expressions and statements: exactly the grammar, with at most 256 constructs in one
+//! another.
 #![tactic(auto)]
 
-ghost use Rattle.std.specs.Prelude.{◌≡◌, ◌≢◌, ℕ, IfOk, IfErr};
-ghost use Rattle.jsh_lex.specs.Spelling.{AreTokensBehind};
+ghost use Rattle.std.specs.Prelude.{◌≡◌, ◌≢◌, ℕ, Bool, IfOk, IfErr};
 ghost use Rattle.jsh_tree.specs.declared.expression.Expr.{Expr};
+ghost use Rattle.jsh_tree.specs.declared.statement.Stmt.{Stmt};
 ghost use Rattle.jsh_parse.specs.declared.error.ParseError.TheVariants.{NoMemory, TooDeep};
 ghost use Rattle.jsh_parse.specs.Grammar.{IsExpr};
+ghost use Rattle.jsh_parse.specs.Reading.{AreTaken};
+ghost use Rattle.jsh_parse.specs.Statements.{IsStmt};
 
 mod error;
 mod expression;
 mod forms;
+mod heads;
 mod input;
+mod labels;
 mod laws;
 mod leaves;
 mod list;
+mod locals;
 mod marks;
 mod nodes;
 mod operators;
 mod path;
+mod simple;
+mod statement;
+mod statement_nodes;
+mod word_input;
+mod words;
 
-use crate::expression::expr;
-use crate::input::{Input, LIMIT};
 pub use error::ParseError;
 pub use forms::{Form, form_of};
-use jsh_tree::{Expr, Token};
-pub use laws::{expressions_are_decided, one_statement, one_tree, statements_are_decided};
+use jsh_tree::{Expr, Stmt, Token};
+pub use laws::{
+    expressions_are_decided, expressions_are_in_the_table, one_statement, one_tree,
+    statements_are_decided, statements_are_in_the_table,
+};
 use std::alloc::Global;
+
+// Readers of fronts, for the parser of declarations: each reads from the token at a place on, and gives
+// the place behind what it read. With them come the tests of tokens.
+pub use expression::expr;
+pub use input::{
+    Input, LIMIT, deeper, left_brace, left_paren, right_brace, right_paren, sees_comma,
+    sees_left_paren, sees_right_brace,
+};
+pub use leaves::{brackets, identifier, identifier_of, type_name, type_use};
+pub use list::arguments;
+pub use locals::{final_word, variable};
+pub use marks::{is_dot, is_identifier, is_primitive, is_super, is_this, names_type};
+pub use statement::{block, statements, stmt};
+pub use word_input::{sees_identifier, sees_right_paren, sees_semicolon, sees_var, semicolon};
+pub use words::{is_semicolon, is_var};
 
 /// The expression that the tokens of a text are.
 pub fn parse_expr(alloc: Global, text: &str, tokens: &[Token]) -> Result<Expr, ParseError>
-    // The tokens are tokens of the text, as the lexis gives them.
-    requires { AreTokensBehind text.now 0 tokens.now }
+    // The tokens are tokens of the text, as the lexis gives them, perhaps with a semicolon that stands for its end.
+    requires { AreTaken text.now tokens.now }
     ensures ok { IfOk result (λ tree. IsExpr text.now 256 tokens.now tree) }
     ensures refused { IfErr result (λ e. e ≢ NoMemory → (tree : Expr) → IsExpr text.now 256 tokens.now tree → ⊥) }
     ensures limit { (limit : ℕ) → result ≡ Err (TooDeep limit) → limit ≡ 256 }
@@ -53,7 +79,34 @@ fn whole(input: &Input) -> Result<Expr, ParseError>
     Ok(tree.into_inner())
 }
 
+/// The statement that the tokens of a text are.
+pub fn parse_stmt(alloc: Global, text: &str, tokens: &[Token]) -> Result<Stmt, ParseError>
+    // The tokens are tokens of the text, as the lexis gives them, perhaps with a semicolon that stands for its end.
+    requires { AreTaken text.now tokens.now }
+    ensures ok { IfOk result (λ tree. (dangling : Bool) × IsStmt text.now 256 dangling tokens.now tree) }
+    ensures refused { IfErr result (λ e. e ≢ NoMemory → (dangling : Bool) → (tree : Stmt) → IsStmt text.now 256 dangling tokens.now tree → ⊥) }
+    ensures limit { (limit : ℕ) → result ≡ Err (TooDeep limit) → limit ≡ 256 }
+{
+    let input = Input::new(alloc, text, tokens);
+    whole_statement(&input)
+}
+
+/// The statement that all tokens are.
+fn whole_statement(input: &Input) -> Result<Stmt, ParseError>
+    ensures ok { IfOk result (λ tree. (dangling : Bool) × IsStmt input.now.text.now 256 dangling input.now.tokens.now tree) }
+    ensures refused { IfErr result (λ e. e ≢ NoMemory → (dangling : Bool) → (tree : Stmt) → IsStmt input.now.text.now 256 dangling input.now.tokens.now tree → ⊥) }
+    ensures limit { (limit : ℕ) → result ≡ Err (TooDeep limit) → limit ≡ 256 }
+{
+    let (tree, behind) = stmt(input, 0, LIMIT)?;
+    if behind < input.tokens.len() {
+        return Err(input.refuse(behind, None));
+    }
+    Ok(tree.into_inner())
+}
+
 #[cfg(test)]
 mod shape;
+#[cfg(test)]
+mod statement_tests;
 #[cfg(test)]
 mod tests;

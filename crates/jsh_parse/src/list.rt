@@ -1,6 +1,6 @@
 //! Arguments, sizes of arrays, and values of array initializers.
 
-ghost use Rattle.std.specs.Prelude.{◌≡◌, ◌+◌, ◌<◌, ◌≤◌, length, drop, IfOk, IfSome};
+ghost use Rattle.std.specs.Prelude.{◌≡◌, ◌+◌, ◌-◌, ◌<◌, ◌≤◌, length, drop, IfOk, IfSome};
 ghost use Rattle.jsh_parse.specs.Reading as read;
 ghost use Rattle.jsh_parse.specs.Reading.{Reads};
 
@@ -54,7 +54,7 @@ fn listed(input: &Input, from: usize, room: u32) -> Result<(Seq<Expr>, usize), P
 #[cycle(parser)]
 pub fn sizes(input: &Input, from: usize, room: u32) -> Result<(Seq<Expr>, usize), ParseError>
     ensures value { Reads input.now.tokens.now from (read.sizes_at input.now.text.now room (drop from input.now.tokens.now)) result }
-    ensures inside { IfOk result (λ found. length found.0 ≤ length input.now.tokens.now) }
+    ensures inside { IfOk result (λ found. length found.0 ≤ length input.now.tokens.now - from) }
     ensures forward { IfOk result (λ found. from + length found.0 ≤ found.1) }
 {
     let mut sizes = Vec::new(input.alloc);
@@ -140,7 +140,7 @@ fn behind_value(input: &Input, at: usize) -> Result<(bool, usize), ParseError>
 }
 
 #[cycle(parser)]
-fn initial(input: &Input, at: usize, room: u32) -> Result<(Initial, usize), ParseError>
+pub fn initial(input: &Input, at: usize, room: u32) -> Result<(Initial, usize), ParseError>
     ensures { Reads input.now.tokens.now at (read.initial_at input.now.text.now room (drop at input.now.tokens.now)) result }
 {
     let Some(token) = input.token(at) else {

@@ -1,6 +1,6 @@
 //! Operands: names, calls, literals and new objects, with members and indices behind them.
 
-ghost use Rattle.std.specs.Prelude.{◌≡◌, ◌+◌, ◌<◌, ◌≤◌, length, drop, IfOk};
+ghost use Rattle.std.specs.Prelude.{◌≡◌, ◌+◌, ◌^◌, ◌<◌, ◌≤◌, length, drop, IfOk};
 ghost use Rattle.jsh_tree.specs.declared.expression.Expr.TheVariants as tree;
 ghost use Rattle.jsh_parse.specs.Leaves as spec;
 ghost use Rattle.jsh_parse.specs.Reading as read;
@@ -178,7 +178,8 @@ fn creation(
     at: usize,
     room: u32,
 ) -> Result<(Boxed<Expr>, usize), ParseError>
-    requires { IsWithin input.now.text.now name }
+    requires within { IsWithin input.now.text.now name }
+    requires behind { 0 < at }
     ensures { Reads input.now.tokens.now at (read.creation_at input.now.text.now room token name (drop at input.now.tokens.now)) result }
 {
     if sees_left_paren(input, at) {
@@ -249,8 +250,8 @@ fn new_array(
     at: usize,
 ) -> Result<(Boxed<Expr>, usize), ParseError>
     requires within { IsWithin input.now.text.now name }
-    requires few { length sizes ≤ length input.now.tokens.now }
-    requires before { length sizes ≤ at }
+    requires few { length sizes < 2 ^ 32 }
+    requires before { length sizes < at }
     ensures { Reads input.now.tokens.now at (read.with_sizes input.now.text.now token name sizes (drop at input.now.tokens.now)) result }
 {
     if sizes.is_empty() {

@@ -106,6 +106,6 @@ invariant-list::initials-loop-turn l = record {
 abbrev pub invariant-list::sizes-loop-turn : goal.invariant-list::sizes-loop-turn
 invariant-list::sizes-loop-turn l = record {
   forward : l.from + length l.sizes.items ≤ l.at;
-  few : length l.sizes.items ≤ length l.input.tokens.now;
+  few : length l.sizes.items ≤ length l.input.tokens.now - l.from;
   reads : prepend [] (sizes l.most (below l.input.text.now l.room) (drop l.from l.input.tokens.now)) ≡ prepend l.sizes.items (sizes (l.most - l._turn) (below l.input.text.now l.room) (drop l.at l.input.tokens.now));
 }

@@ -1,4 +1,4 @@
-use Rattle.std.proofs.Common.{sym, subst, arith, drop}
+use Rattle.std.proofs.Common.{sym, subst, arith}
 use Rattle.jsh_parse.specs.Grammar.{IsExpr}
 use Rattle.jsh_parse.proofs.AllTokens.{whole_spelled, left_over, refuses_trees, tells_limit, tells_none}
 use Rattle.jsh_parse.proofs.whole.Goals as goal

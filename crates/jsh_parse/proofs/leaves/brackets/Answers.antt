@@ -1,4 +1,4 @@
-use Rattle.std.proofs.Common.{rules, arith, ◌≡◌, ◌+◌, ◌*◌, drop, ap, inr}
+use Rattle.std.proofs.Common.{arith, drop, ap, inr}
 use Rattle.std.proofs.lemmas.List.{drop-drop}
 use Rattle.jsh_parse.specs.Reader.{brackets}
 use Rattle.jsh_parse.proofs.Types.{one_more_count, one_more_rest, no_more_count, no_more_rest}

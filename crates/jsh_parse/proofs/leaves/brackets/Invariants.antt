@@ -1,4 +1,4 @@
-use Rattle.std.proofs.Common.{◌≡◌, ℕ, ◌+◌, ◌*◌, ◌-◌, ◌≤◌, ◌⊎◌, length, drop}
+use Rattle.std.proofs.Common.{◌≡◌, ◌+◌, ◌*◌, ◌-◌, ◌≤◌, ◌⊎◌, length, drop}
 use Rattle.jsh_parse.specs.Reader.{brackets}
 use Rattle.jsh_parse.proofs.leaves.brackets.Given as goal
 

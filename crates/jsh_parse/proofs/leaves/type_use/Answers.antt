@@ -1,4 +1,4 @@
-use Rattle.std.proofs.Common.{rules, arith, ◌≤◌}
+use Rattle.std.proofs.Common.{arith}
 use Rattle.jsh_parse.proofs.Types.{type_by_name}
 use Rattle.jsh_parse.proofs.leaves.type_use.Goals as goal
 
