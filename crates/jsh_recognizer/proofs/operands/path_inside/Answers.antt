@@ -1,0 +1,15 @@
+-- The frames behind are put first, and then the operand's own in front of them.
+use Rattle.std.proofs.Common.{ℕ, ◌+◌, ◌≡◌, subst, arith}
+use Rattle.jsh_recognizer.specs.Machine as machine
+use Rattle.jsh_recognizer.specs.Stacks.{frames_of, Does}
+use Rattle.jsh_recognizer.proofs.Inside.{does-inside}
+use Rattle.jsh_recognizer.proofs.operands.path_inside.Goals as goal
+
+pub returns : goal.returns
+returns c =
+    let same : c.from.result ≡ c.args.deeper = omega arith in
+    let P : ℕ → Type 0 = λ n. Does (c.args.depth + n) (machine.behind_path c.args.context c.args.ending c.args.kind) (frames_of c.put_all.new.self)
+    (frames_of c.behind_path.new.stack) c.in_ok-answer.answer in
+    does-inside c.args.depth c.args.deeper c.args.more.now (machine.behind_path c.args.context c.args.ending c.args.kind) (frames_of c.args.stack.now)
+    (frames_of c.put_all.new.self) (frames_of c.behind_path.new.stack) c.in_ok-answer.answer c.closed.result c.in_ok-put_all.ensures
+    (subst P same c.in_ok-answer.ensures) c.closed.ensures

@@ -1,0 +1,5 @@
+pub mod Machine
+pub mod Meanings
+pub mod Stacks
+pub mod Recognizing
+pub mod Stops

@@ -1,0 +1,22 @@
+//! A recognizer of the grammar's table: it takes the tokens of a prefix one after another.
+#![tactic(auto)]
+
+mod answer;
+mod classes;
+mod declarations;
+mod frame;
+mod laws;
+mod moves;
+mod operands;
+mod recognizer;
+mod scanner;
+mod stack;
+mod statements;
+mod stops;
+#[cfg(test)]
+mod tests;
+
+pub use frame::{Context, Ending, Frame};
+pub use laws::recognizer_takes_prefixes;
+pub use recognizer::{Advance, Recognizer, Start};
+pub use scanner::{End, Scanned, scan};
