@@ -35,6 +35,11 @@ run_of _ = 0
 
 -- what is wrong, in words
 abbrev pub code_text : Code → List ℕ
+code_text code.NoSnippet = codes "one snippet is needed"
+code_text code.BadToken = codes "bad token"
+code_text code.Unexpected = codes "unexpected text"
+code_text code.TooDeep = codes "nested too deep"
+code_text code.NumberTooBig = codes "number too big"
 code_text code.NotYet = codes "not built yet"
 
 abbrev pub limit_name : LimitKind → List ℕ

@@ -13,6 +13,11 @@ fn words_of(code: &Code) -> &'static str
     ensures { result.now ≡ code_text code.now }
 {
     match code {
+        Code::NoSnippet => "one snippet is needed",
+        Code::BadToken => "bad token",
+        Code::Unexpected => "unexpected text",
+        Code::TooDeep => "nested too deep",
+        Code::NumberTooBig => "number too big",
         Code::NotYet => "not built yet",
     }
 }

@@ -13,6 +13,16 @@ pub struct Diagnostic {
 /// What can be wrong with a snippet.
 #[derive(Clone, Debug, PartialEq, Eq, Drop)]
 pub enum Code {
-    /// The engine doesn't evaluate such a snippet yet.
+    /// The source has no token. Its place is 0.
+    NoSnippet,
+    /// A fault of the lexis other than a number that is too big, at the first byte of what is at fault.
+    BadToken,
+    /// The tokens aren't a snippet. Its place is where they stop being the beginning of one.
+    Unexpected,
+    /// The tokens begin a snippet, but the next one is nested too deep. Its place is 0.
+    TooDeep,
+    /// An integer literal whose value its type doesn't have, at its first byte.
+    NumberTooBig,
+    /// The engine doesn't evaluate such a snippet yet. Its place is 0.
     NotYet,
 }

@@ -24,11 +24,11 @@ pub enum Tree {
     Expression(Expr),
 }
 
-/// A literal, and what is added to it and subtracted from it in turn (JLS 15.18). The language that is
+/// An operand, and what is added to it and subtracted from it in turn (JLS 15.18). The language that is
 /// evaluated so far has sums alone.
 #[derive(Clone, Debug, PartialEq, Eq, Drop)]
 pub struct Sum {
-    /// The value of a literal, which is not negative.
+    /// The value of a literal, or of one behind a minus.
     pub first: i32,
     pub rest: Seq<Part>,
 }
@@ -37,7 +37,7 @@ pub struct Sum {
 #[derive(Clone, Copy, Debug, PartialEq, Eq)]
 pub struct Part {
     pub operator: AdditiveOperator,
-    /// The value of a literal, which is not negative.
+    /// The value of a literal, or of one behind a minus.
     pub operand: i32,
 }
 
