@@ -42,5 +42,12 @@ pub mod TakesFrames
 pub mod TakesRuns
 pub mod Stopped
 pub mod Inside
+pub mod EachKind
 pub mod Near
+pub mod Bounded
 pub mod Stepping
+pub mod Advanced
+pub mod Wanting
+pub mod Decided
+pub mod Refusals
+pub mod Prefixes

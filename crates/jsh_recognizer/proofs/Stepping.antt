@@ -14,7 +14,8 @@ use Rattle.jsh_recognizer.specs.declared.scanner.End.TheVariants as end
 use Rattle.jsh_recognizer.specs.Machine.{Move, takes, passes, refuses, Frames, onto, move_of, Steps, expected, moved, passed, Runs, at_end, one_more}
 use Rattle.jsh_recognizer.specs.Stacks.{Does}
 use Rattle.jsh_recognizer.specs.Recognizing.{AreWithin, EachWithin, Meets, IsTaken, WillTake, Advances, Wants, Ends, kinds}
-use Rattle.jsh_recognizer.proofs.Near.{is_near, are_near, near, moves-near, near-number, and-left, and-right}
+use Rattle.jsh_recognizer.proofs.EachKind.{and-left, and-right}
+use Rattle.jsh_recognizer.proofs.Near.{is_near, are_near, near, moves-near, near-number}
 
 within-onto : (depth own : ℕ) (fs : List (ℕ × Frame)) → are_near own fs ≡ true → AreWithin ((depth + own) + 1) (onto depth fs [])
 within-onto depth own [] e = tt
@@ -32,7 +33,7 @@ past is expected = absurd (cc)
 past is (moved e) = absurd (cc)
 past is (passed e s) = s
 
-refuses-all : {depth at : ℕ} {f : Frame} {k : TokenKind} {rest next : Frames} →
+pub refuses-all : {depth at : ℕ} {f : Frame} {k : TokenKind} {rest next : Frames} →
     move_of f k ≡ refuses → (f ≡ frame.Expect k → ⊥) → Steps ((depth, f) ∷ rest) k at next → ⊥
 refuses-all is ne expected = ne refl
 refuses-all is ne (moved e) = cc
@@ -164,32 +165,15 @@ depth-read n i xs x e le is =
     let P : ℕ × Frame → Type 0 = λ y. y.0 ≤ n in
     subst P (sym is) (within-at n i xs x (from-each n xs e) le)
 
--- the frames that are kept and those that come are no deeper than before
-pub each-replaced : (n at left : ℕ) (xs fresh new : Frames) →
-    EachWithin n xs → AreWithin (at + 1) (reverse fresh) → at + 1 ≤ n → new ≡ take left xs ++ fresh → EachWithin n new
-each-replaced n at left xs fresh new e a le is =
-    let P : Frames → Type 0 = λ ys. EachWithin n ys in
-    subst P (sym is) (to-each n (take left xs ++ fresh)
-    (within-append n (take left xs) fresh (within-take n left xs (from-each n xs e)) (within-reversed n fresh (within-more (at + 1) n (reverse fresh) le a))))
+-- the one frame of a stack
+pub one-frame : (items old : Frames) (f : Frame) → items ≡ old ++ (0, f) ∷ [] → old ≡ [] → reverse items ≡ (0, f) ∷ []
+one-frame items old f is empty = ap reverse (is ∙ ap (λ x. x ++ (0, f) ∷ []) empty)
 
-pub each-kept : (n left : ℕ) (xs new : Frames) → EachWithin n xs → new ≡ take left xs → EachWithin n new
-each-kept n left xs new e is =
-    let P : Frames → Type 0 = λ ys. EachWithin n ys in
-    subst P (sym is) (to-each n (take left xs) (within-take n left xs (from-each n xs e)))
-
--- the same where they are put behind those that are kept, if there is memory for it
-pub each-extended : (n at left : ℕ) (xs kept fresh other new : Frames) (b : Bool) → EachWithin n xs → AreWithin (at + 1) (reverse fresh) → at + 1 ≤ n →
-    kept ≡ take left xs → other ≡ fresh → new ≡ (if b then kept ++ other else kept) → EachWithin n new
-each-extended n at left xs kept fresh other new true e a le k o is =
-    each-replaced n at left xs fresh new e a le (is ∙ ap (λ y. y ++ other) k ∙ ap (λ y. take left xs ++ y) o)
-each-extended n at left xs kept fresh other new false e a le k o is = each-kept n left xs new e (is ∙ k)
-
--- one frame at the least depth
-pub each-first : (n : ℕ) (items old : Frames) (f : Frame) → reverse items ≡ (0, f) ∷ old → old ≡ [] → EachWithin n items
-each-first n items old f is empty =
-    let P : Frames → Type 0 = λ x. AreWithin n x in
-    let one : AreWithin n ((0, f) ∷ []) = (omega arith, tt) in
-    to-each n items (within-reversed n items (subst P (sym (is ∙ ap (λ x. (0, f) ∷ x) empty)) one))
+-- frames that are put behind those of a list that are kept come in front of them
+pub put-front : (new kept other items fresh : Frames) (left : ℕ) →
+    new ≡ kept ++ other → kept ≡ take left items → other ≡ fresh → reverse new ≡ reverse fresh ++ reverse (take left items)
+put-front new kept other items fresh left is k o =
+    ap reverse (is ∙ ap (λ y. y ++ other) k ∙ ap (λ y. take left items ++ y) o) ∙ reverse-append (take left items) fresh
 
 -- a kind that the next frame takes may come
 pub wanted-found : (k : TokenKind) (all left rest : Frames) (x : ℕ × Frame) →
@@ -198,7 +182,7 @@ wanted-found k all left rest x same is will =
     let s = will-step x.0 x.1 k rest will in
     (s.0, s.1, same.onward s.0 s.1 (subst (λ y. Steps y k s.0 s.1) (sym is) s.2))
 
-nothing-left : {k : TokenKind} {at : ℕ} {next fs : Frames} → fs ≡ [] → Steps fs k at next → ⊥
+pub nothing-left : {k : TokenKind} {at : ℕ} {next fs : Frames} → fs ≡ [] → Steps fs k at next → ⊥
 nothing-left is expected = cc
 nothing-left is (moved e) = cc
 nothing-left is (passed e s) = cc
@@ -219,21 +203,20 @@ pub kinds-more : (ts : List Token) (i : ℕ) (d : Token) → i < length ts → k
 kinds-more ts i d le = ap kinds (take_more ts i d le) ∙ kinds-append (take i ts) (get_or ts i d ∷ [])
 
 -- one more token is taken
-pub taken-more : (limit own : ℕ) (start old new : Frames) (a : Advance) (ts : List Token) (i : ℕ) (d : Token) →
-    i < length ts → own ≡ limit → a ≡ advance.Taken → Advances own (get_or ts i d).kind old new a → Runs limit start (kinds (take i ts)) old →
+pub taken-more : (limit : ℕ) (start old new : Frames) (a : Advance) (ts : List Token) (i : ℕ) (d : Token) →
+    i < length ts → a ≡ advance.Taken → Advances limit (get_or ts i d).kind old new a → Runs limit start (kinds (take i ts)) old →
     Runs limit start (kinds (take (i + 1) ts)) new
-taken-more limit own start old new a ts i d le same is does runs =
-    let P : Advance → Type 0 = λ b. Advances own (get_or ts i d).kind old new b in
+taken-more limit start old new a ts i d le is does runs =
+    let P : Advance → Type 0 = λ b. Advances limit (get_or ts i d).kind old new b in
     let taken : P advance.Taken = subst P is does in
-    let within : taken.0 ≤ limit = omega (arith, taken.2, same) in
     let Q : List TokenKind → Type 0 = λ ks. Runs limit start ks new in
-    subst Q (sym (kinds-more ts i d le)) (runs-on runs taken.1 within)
+    subst Q (sym (kinds-more ts i d le)) (runs-on runs taken.1 taken.2)
 
 -- the next token is refused
-pub refused-end : (limit own : ℕ) (old new : Frames) (a : Advance) (wanted : Option TokenKind) (ts : List Token) (i : ℕ) (d : Token) →
-    i < length ts → a ≡ advance.Refused → Advances own (get_or ts i d).kind old new a → Wants new wanted → Ends limit old (drop i ts) (end.Refused wanted)
-refused-end limit own old new a wanted ts i d le is does wants =
-    let P : Advance → Type 0 = λ b. Advances own (get_or ts i d).kind old new b in
+pub refused-end : (limit : ℕ) (old new : Frames) (a : Advance) (wanted : Option TokenKind) (ts : List Token) (i : ℕ) (d : Token) →
+    i < length ts → a ≡ advance.Refused → Advances limit (get_or ts i d).kind old new a → Wants new wanted → Ends limit old (drop i ts) (end.Refused wanted)
+refused-end limit old new a wanted ts i d le is does wants =
+    let P : Advance → Type 0 = λ b. Advances limit (get_or ts i d).kind old new b in
     let refused : P advance.Refused = subst P is does in
     let W : Frames → Type 0 = λ x. Wants x wanted in
     let Q : List Token → Type 0 = λ us. Ends limit old us (end.Refused wanted) in

@@ -60,32 +60,32 @@ whole_fulfils {limit = limit} {ks = ks} (whole p is d) =
     fulfils_part is (subst (λ x. Fulfils x ks) (sym (append-nil (in_room limit p))) ((stack_whole limit p ks).1 d))
 
 -- a whole part is one in more room
-whole_grows : {n : Part} {room : ℕ} {ks : List TokenKind} → IsWhole n room ks → (more : ℕ) → room ≤ more → IsWhole n more ks
+pub whole_grows : {n : Part} {room : ℕ} {ks : List TokenKind} → IsWhole n room ks → (more : ℕ) → room ≤ more → IsWhole n more ks
 whole_grows (whole p is d) more le = whole p is (grows d more le)
 
 -- ---- the recognizer from the start
 
 -- what it takes is a prefix
-runs_prefix : (s : Start) (limit : ℕ) (ks : List TokenKind) (last : Frames) → Runs limit (first s) ks last → IsPrefix (part_of s) limit ks
+pub runs_prefix : (s : Start) (limit : ℕ) (ks : List TokenKind) (last : Frames) → Runs limit (first s) ks last → IsPrefix (part_of s) limit ks
 runs_prefix start.Expression limit ks last runs = leads_prefix (nothing_yet start.Expression limit) (runs_lead _ _ limit ks last with_expression runs)
 runs_prefix start.Statement limit ks last runs = leads_prefix (nothing_yet start.Statement limit) (runs_lead _ _ limit ks last with_statement runs)
 runs_prefix start.Snippet limit ks last runs = leads_prefix (nothing_yet start.Snippet limit) (runs_lead _ _ limit ks last with_snippet runs)
 
 -- it takes each prefix
-prefix_runs : (s : Start) (limit : ℕ) (ks : List TokenKind) → IsPrefix (part_of s) limit ks → (last : Frames) × Runs limit (first s) ks last
+pub prefix_runs : (s : Start) (limit : ℕ) (ks : List TokenKind) → IsPrefix (part_of s) limit ks → (last : Frames) × Runs limit (first s) ks last
 prefix_runs start.Expression limit ks is = leads_runs _ _ limit ks with_expression (prefix_leads is)
 prefix_runs start.Statement limit ks is = leads_runs _ _ limit ks with_statement (prefix_leads is)
 prefix_runs start.Snippet limit ks is = leads_runs _ _ limit ks with_snippet (prefix_leads is)
 
 -- where it may stop, that is the whole
-runs_whole : (s : Start) (limit : ℕ) (ks : List TokenKind) (last : Frames) → Runs limit (first s) ks last → may_all_stop last ≡ true →
+pub runs_whole : (s : Start) (limit : ℕ) (ks : List TokenKind) (last : Frames) → Runs limit (first s) ks last → may_all_stop last ≡ true →
     IsWhole (part_of s) limit ks
 runs_whole start.Expression limit ks last runs stop = fulfils_whole (runs_fulfil _ _ limit ks last with_expression runs stop)
 runs_whole start.Statement limit ks last runs stop = fulfils_whole (runs_fulfil _ _ limit ks last with_statement runs stop)
 runs_whole start.Snippet limit ks last runs stop = fulfils_whole (runs_fulfil _ _ limit ks last with_snippet runs stop)
 
 -- and behind the whole it may stop
-whole_may_stop : (s : Start) (limit : ℕ) (ks : List TokenKind) (last : Frames) → Runs limit (first s) ks last → IsWhole (part_of s) limit ks →
+pub whole_may_stop : (s : Start) (limit : ℕ) (ks : List TokenKind) (last : Frames) → Runs limit (first s) ks last → IsWhole (part_of s) limit ks →
     may_all_stop last ≡ true
 whole_may_stop start.Expression limit ks last runs is = whole_stops _ _ limit ks last with_expression runs (whole_fulfils is)
 whole_may_stop start.Statement limit ks last runs is = whole_stops _ _ limit ks last with_statement runs (whole_fulfils is)
@@ -94,12 +94,12 @@ whole_may_stop start.Snippet limit ks last runs is = whole_stops _ _ limit ks la
 -- ---- more room, and one token more
 
 -- a greater limit lets the same pass
-runs_grow : {limit : ℕ} {fs last : Frames} {ks : List TokenKind} → Runs limit fs ks last → (more : ℕ) → limit ≤ more → Runs more fs ks last
+pub runs_grow : {limit : ℕ} {fs last : Frames} {ks : List TokenKind} → Runs limit fs ks last → (more : ℕ) → limit ≤ more → Runs more fs ks last
 runs_grow at_end more le = at_end
 runs_grow (one_more s at runs) more le = one_more s (omega (arith, at, le)) (runs_grow runs more le)
 
 -- one token behind others
-runs_put : {limit at : ℕ} {fs last next : Frames} {ks : List TokenKind} {k : TokenKind} → Runs limit fs ks last → Steps last k at next → at ≤ limit →
+pub runs_put : {limit at : ℕ} {fs last next : Frames} {ks : List TokenKind} {k : TokenKind} → Runs limit fs ks last → Steps last k at next → at ≤ limit →
     Runs limit fs (ks ++ k ∷ []) next
 runs_put at_end step le = one_more step le at_end
 runs_put (one_more s at runs) step le = one_more s at (runs_put runs step le)
@@ -117,11 +117,11 @@ runs_before [] (one_more s at runs) = before at_end s at
 runs_before (j ∷ ks) (one_more s at runs) = before_more s at (runs_before ks runs)
 
 -- the one way in which frames take a token
-data StepOf (limit : ℕ) (fs : Frames) (k : TokenKind) : Type 0 where
+pub data StepOf (limit : ℕ) (fs : Frames) (k : TokenKind) : Type 0 where
   step_of : {at : ℕ} {next : Frames} → Steps fs k at next → at ≤ limit → StepOf limit fs k
 
 -- where these tokens and one more are a prefix, the frames behind these take it
-next_step : (s : Start) {limit : ℕ} {ks : List TokenKind} {last : Frames} → Runs limit (first s) ks last → (room : ℕ) (k : TokenKind) →
+pub next_step : (s : Start) {limit : ℕ} {ks : List TokenKind} {last : Frames} → Runs limit (first s) ks last → (room : ℕ) (k : TokenKind) →
     IsPrefix (part_of s) room (ks ++ k ∷ []) → StepOf room last k
 next_step s {limit = limit} {ks = ks} {last = last} runs room k is = by (runs_before ks (prefix_runs s room (ks ++ k ∷ []) is).1)
   where
@@ -131,7 +131,7 @@ next_step s {limit = limit} {ks = ks} {last = last} runs room k is = by (runs_be
         step_of (subst (λ x. Steps x k at next) same step) le
 
 -- with a token that the frames take, the tokens are a prefix, in some room
-step_prefix : (s : Start) {limit at : ℕ} {ks : List TokenKind} {last next : Frames} {k : TokenKind} → Runs limit (first s) ks last → Steps last k at next →
+pub step_prefix : (s : Start) {limit at : ℕ} {ks : List TokenKind} {last next : Frames} {k : TokenKind} → Runs limit (first s) ks last → Steps last k at next →
     (room : ℕ) × IsPrefix (part_of s) room (ks ++ k ∷ [])
 step_prefix s {limit = limit} {at = at} {ks = ks} {next = next} {k = k} runs step =
     (limit + at, runs_prefix s (limit + at) (ks ++ k ∷ []) next (runs_put (runs_grow runs (limit + at) (omega arith)) step (omega arith)))
@@ -145,21 +145,21 @@ goes_on s (Some k) runs wants = step_prefix s runs wants.2
 -- ---- the tokens behind
 
 -- one token more
-one_kind_more : (ts : List Token) (n : ℕ) {t : Token} {rest : List Token} → drop n ts ≡ t ∷ rest → kinds (take (suc n) ts) ≡ kinds (take n ts) ++ t.kind ∷ []
+pub one_kind_more : (ts : List Token) (n : ℕ) {t : Token} {rest : List Token} → drop n ts ≡ t ∷ rest → kinds (take (suc n) ts) ≡ kinds (take n ts) ++ t.kind ∷ []
 one_kind_more [] zero e = absurd cc
 one_kind_more [] (suc n) e = absurd cc
 one_kind_more (u ∷ ts) zero {t} e = let same : u ≡ t = cc in ap (λ x. x.kind ∷ []) same
 one_kind_more (u ∷ ts) (suc n) e = ap (λ x. u.kind ∷ x) (one_kind_more ts n e)
 
 -- all of them
-all_kinds : (ts : List Token) (n : ℕ) → drop n ts ≡ [] → kinds (take n ts) ≡ kinds ts
+pub all_kinds : (ts : List Token) (n : ℕ) → drop n ts ≡ [] → kinds (take n ts) ≡ kinds ts
 all_kinds [] zero e = refl
 all_kinds [] (suc n) e = refl
 all_kinds (u ∷ ts) zero e = absurd cc
 all_kinds (u ∷ ts) (suc n) e = ap (λ x. u.kind ∷ x) (all_kinds ts n e)
 
 -- no room makes them whole
-never_whole : (s : Start) {limit : ℕ} {ks : List TokenKind} {last : Frames} → Runs limit (first s) ks last → may_all_stop last ≡ false → (room : ℕ) →
+pub never_whole : (s : Start) {limit : ℕ} {ks : List TokenKind} {last : Frames} → Runs limit (first s) ks last → may_all_stop last ≡ false → (room : ℕ) →
     IsWhole (part_of s) room ks → ⊥
 never_whole s {limit = limit} {ks = ks} {last = last} runs open_yet room is =
     let yes = whole_may_stop s (limit + room) ks last (runs_grow runs (limit + room) (omega arith)) (whole_grows is (limit + room) (omega arith)) in
@@ -212,16 +212,16 @@ stopped start limit ts s last runs ends = at_stop start limit ts s.read last run
 -- ---- the ends of a scan
 
 -- the next token stands too deep
-pub deep_end : (limit own : ℕ) (old new : Frames) (a : Advance) (ts : List Token) (read : ℕ) (d : Token) → read < length ts → own ≡ limit →
-    a ≡ advance.TooDeep → Advances own (get_or ts read d).kind old new a → Ends limit old (drop read ts) end.TooDeep
-deep_end limit own old new a ts read d le same is does =
-    let P : Advance → Type 0 = λ b. Advances own (get_or ts read d).kind old new b in
+pub deep_end : (limit : ℕ) (old new : Frames) (a : Advance) (ts : List Token) (read : ℕ) (d : Token) → read < length ts →
+    a ≡ advance.TooDeep → Advances limit (get_or ts read d).kind old new a → Ends limit old (drop read ts) end.TooDeep
+deep_end limit old new a ts read d le is does =
+    let P : Advance → Type 0 = λ b. Advances limit (get_or ts read d).kind old new b in
     let deep : P advance.TooDeep = subst P is does in
     let Q : List Token → Type 0 = λ us. Ends limit old us end.TooDeep in
-    subst Q (sym (drop-cons ts read d le)) (deep.0.0, deep.0.1, deep.0.2, omega (arith, deep.0.3, same))
+    subst Q (sym (drop-cons ts read d le)) (deep.0.0, deep.0.1, deep.0.2, deep.0.3)
 
 -- no token stands behind the end
-past_end : (ts : List Token) (n : ℕ) → length ts ≤ n → take n ts ≡ ts
+pub past_end : (ts : List Token) (n : ℕ) → length ts ≤ n → take n ts ≡ ts
 past_end [] zero le = refl
 past_end [] (suc n) le = refl
 past_end (t ∷ ts) zero le = absurd (omega (arith, le))

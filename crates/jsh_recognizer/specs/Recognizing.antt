@@ -14,6 +14,7 @@ use Rattle.jsh_recognizer.specs.declared.recognizer.Found.{Found}
 use Rattle.jsh_recognizer.specs.declared.scanner.End.{End}
 use Rattle.jsh_recognizer.specs.declared.scanner.End.TheVariants as end
 use Rattle.jsh_recognizer.specs.Machine.{Move, takes, passes, refuses, move_of, Frames, Steps, may_all_stop}
+use Rattle.jsh_recognizer.specs.Stacks.{frames_of}
 
 -- no frame stands deeper than that
 abbrev pub AreWithin : ℕ → Frames → Type 0
@@ -38,16 +39,22 @@ Meets depth f k fresh answer.Passed = move_of f k ≡ passes
 Meets depth f k fresh answer.Refused = (rest : Frames) (at : ℕ) (next : Frames) → Steps ((depth, f) ∷ rest) k at next → ⊥
 
 -- where the frames end that don't pass, and what came of the next one
-abbrev pub Finds : TokenKind → List (ℕ × Frame) → Frames → Option Found → Type 0
-Finds k items fresh None = (at : ℕ) (next : Frames) → Steps (reverse items) k at next → ⊥
-Finds k items fresh (Some found) =
-    Steps (reverse items) k found.at (fresh ++ reverse (take found.left items)) × AreWithin (found.at + 1) fresh
+abbrev pub Finds : TokenKind → List (ℕ × Frame) → Option Found → Type 0
+Finds k items None = (at : ℕ) (next : Frames) → Steps (reverse items) k at next → ⊥
+Finds k items (Some found) =
+    Steps (reverse items) k found.at (frames_of found.fresh ++ reverse (take found.left items)) × AreWithin (found.at + 1) (frames_of found.fresh)
 
 -- the frame that a text begins with
 abbrev pub first : Start → Frames
 first start.Expression = (0, frame.Expression) ∷ []
 first start.Statement = (0, frame.Statement) ∷ []
 first start.Snippet = (0, frame.Snippet) ∷ []
+
+-- what a recognizer would do with a token
+abbrev pub Looks : ℕ → TokenKind → Frames → Advance → Type 0
+Looks limit k fs advance.Taken = (at : ℕ) × (next : Frames) × Steps fs k at next × (at ≤ limit)
+Looks limit k fs advance.TooDeep = (at : ℕ) × (next : Frames) × Steps fs k at next × (limit < at)
+Looks limit k fs advance.Refused = (at : ℕ) (next : Frames) → Steps fs k at next → ⊥
 
 -- what a recognizer does with a token: the frames before and after
 abbrev pub Advances : ℕ → TokenKind → Frames → Frames → Advance → Type 0

@@ -1,5 +1,6 @@
 -- What the stack of the recognizer stands for, and what a move does with it.
-use Rattle.std.specs.Prelude.{ℕ, ◌≡◌, ◌+◌, ◌&&◌, Bool, true, if◌then◌else◌, false, [], ◌∷◌, reverse}
+use Rattle.std.specs.Prelude.{ℕ, ◌≡◌, ◌≤◌, ◌+◌, ◌&&◌, Bool, true, if◌then◌else◌, false, [], ◌∷◌, length, reverse}
+use Rattle.arrayvec.specs.ArrayVec.{ArrayVec}
 use Rattle.jsh_tree.specs.declared.token.TokenKind.{TokenKind}
 use Rattle.jsh_grammar.specs.Classes.{is_literal, is_prefix, is_step, is_assignment}
 use Rattle.jsh_recognizer.specs.Machine.{Move, takes, passes, refuses, Frames, onto, goes, is_target, rest_of, may_cast, behind_operand}
@@ -8,13 +9,17 @@ use Rattle.jsh_recognizer.specs.declared.frame.Context.TheVariants as context
 use Rattle.jsh_recognizer.specs.declared.frame.Ending.{Ending}
 use Rattle.jsh_recognizer.specs.declared.frame.Ending.TheVariants as ending
 use Rattle.jsh_recognizer.specs.declared.frame.Frame.TheVariants as frame
-use Rattle.jsh_recognizer.specs.declared.stack.Stack.{Stack}
+use Rattle.jsh_recognizer.specs.declared.frame.Frame.{Frame}
 use Rattle.jsh_recognizer.specs.declared.answer.Answer.{Answer}
 use Rattle.jsh_recognizer.specs.declared.answer.Answer.TheVariants as answer
 
 -- the frames, the next one first
-abbrev pub frames_of : Stack → Frames
-frames_of stack = reverse stack.slots.items
+abbrev pub frames_of : ArrayVec (ℕ × Frame) → Frames
+frames_of stack = reverse stack.items
+
+-- so many more of the frames that one move makes fit
+abbrev pub HasRoom : ℕ → ArrayVec (ℕ × Frame) → Type 0
+HasRoom n fresh = length fresh.items + n ≤ 8
 
 -- what a frame does with a token by a move: the depth of the token, and the frames before and after
 abbrev pub Does : ℕ → Move → Frames → Frames → Answer → Type 0

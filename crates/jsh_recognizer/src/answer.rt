@@ -1,12 +1,11 @@
 //! What a frame does with a token.
 
-ghost use Rattle.std.specs.Prelude.{◌≡◌, ◌+◌, ◌<◌, ◌^◌, IfOk, map};
+ghost use Rattle.std.specs.Prelude.{◌≡◌, ◌+◌, ◌<◌, ◌^◌, length, map};
 ghost use Rattle.jsh_recognizer.specs.Machine as machine;
-ghost use Rattle.jsh_recognizer.specs.Stacks.{frames_of, Does, closed};
+ghost use Rattle.jsh_recognizer.specs.Stacks.{frames_of, HasRoom, Does, closed};
 
 use crate::frame::Frame;
-use crate::stack::Stack;
-use std::alloc::AllocError;
+use crate::fresh::{Fresh, put_all, put_each};
 
 /// What a frame did with a token.
 #[derive(Clone, Copy, Debug, PartialEq, Eq)]
@@ -32,24 +31,21 @@ impl Answer {
 }
 
 /// Takes the token so many parts deeper than the frame, in whose place these stand.
-pub fn takes(
-    stack: &mut Stack,
-    depth: u64,
-    own: u32,
-    frames: &[(u32, Frame)],
-) -> Result<Answer, AllocError>
-    requires { depth < 2 ^ 33 }
-    ensures { IfOk result (Does depth (machine.takes own frames.now) (frames_of stack.old) (frames_of stack.new)) }
+pub fn takes(fresh: &mut Fresh, depth: u64, own: u32, frames: &[(u32, Frame)]) -> Answer
+    requires fits { depth < 2 ^ 33 }
+    requires room { HasRoom (length frames.now) fresh.now }
+    ensures { Does depth (machine.takes own frames.now) (frames_of fresh.old) (frames_of fresh.new) result }
 {
-    stack.put_all(depth, frames)?;
-    Ok(Answer::Took(depth + u64::from(own)))
+    put_all(fresh, depth, frames);
+    Answer::Took(depth + u64::from(own))
 }
 
 /// Takes the token where it stands.
-pub fn goes(stack: &mut Stack, depth: u64, frames: &[Frame]) -> Result<Answer, AllocError>
-    requires { depth < 2 ^ 33 }
-    ensures { IfOk result (Does depth (machine.goes frames.now) (frames_of stack.old) (frames_of stack.new)) }
+pub fn goes(fresh: &mut Fresh, depth: u64, frames: &[Frame]) -> Answer
+    requires fits { depth < 2 ^ 33 }
+    requires room { HasRoom (length frames.now) fresh.now }
+    ensures { Does depth (machine.goes frames.now) (frames_of fresh.old) (frames_of fresh.new) result }
 {
-    stack.put_each(depth, frames)?;
-    Ok(Answer::Took(depth))
+    put_each(fresh, depth, frames);
+    Answer::Took(depth)
 }

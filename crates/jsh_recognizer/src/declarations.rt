@@ -1,8 +1,8 @@
 //! The moves of frames of snippets.
 
-ghost use Rattle.std.specs.Prelude.{◌≤◌, ◌^◌, IfOk};
+ghost use Rattle.std.specs.Prelude.{◌≤◌, ◌^◌};
 ghost use Rattle.jsh_recognizer.specs.Machine as machine;
-ghost use Rattle.jsh_recognizer.specs.Stacks.{frames_of, Does};
+ghost use Rattle.jsh_recognizer.specs.Stacks.{frames_of, HasRoom, Does};
 
 use crate::answer::{Answer, goes, takes};
 use crate::classes::{
@@ -10,19 +10,19 @@ use crate::classes::{
     is_primitive, is_same_word,
 };
 use crate::frame::{Context, Ending, Frame};
+use crate::fresh::Fresh;
 use crate::operands::{begins_inside, path_inside};
-use crate::stack::Stack;
 use crate::statements::{statement, statements};
 use jsh_tree::TokenKind;
-use std::alloc::AllocError;
 
-pub fn import_name(stack: &mut Stack, depth: u64, kind: TokenKind) -> Result<Answer, AllocError>
-    requires { depth ≤ 2 ^ 32 }
-    ensures { IfOk result (Does depth (machine.import_name kind) (frames_of stack.old) (frames_of stack.new)) }
+pub fn import_name(fresh: &mut Fresh, depth: u64, kind: TokenKind) -> Answer
+    requires fits { depth ≤ 2 ^ 32 }
+    requires room { HasRoom 8 fresh.now }
+    ensures { Does depth (machine.import_name kind) (frames_of fresh.old) (frames_of fresh.new) result }
 {
     match kind {
         TokenKind::Static => goes(
-            stack,
+            fresh,
             depth,
             &[
                 Frame::Expect(TokenKind::Identifier),
@@ -31,44 +31,47 @@ pub fn import_name(stack: &mut Stack, depth: u64, kind: TokenKind) -> Result<Ans
             ],
         ),
         TokenKind::Identifier => goes(
-            stack,
+            fresh,
             depth,
             &[Frame::Expect(TokenKind::Dot), Frame::DottedName],
         ),
-        _ => Ok(Answer::Refused),
+        _ => Answer::Refused,
     }
 }
 
-pub fn dotted_name(stack: &mut Stack, depth: u64, kind: TokenKind) -> Result<Answer, AllocError>
-    requires { depth ≤ 2 ^ 32 }
-    ensures { IfOk result (Does depth (machine.dotted_name kind) (frames_of stack.old) (frames_of stack.new)) }
+pub fn dotted_name(fresh: &mut Fresh, depth: u64, kind: TokenKind) -> Answer
+    requires fits { depth ≤ 2 ^ 32 }
+    requires room { HasRoom 8 fresh.now }
+    ensures { Does depth (machine.dotted_name kind) (frames_of fresh.old) (frames_of fresh.new) result }
 {
     match kind {
-        TokenKind::Identifier => goes(stack, depth, &[Frame::MoreDotted]),
-        TokenKind::Star => goes(stack, depth, &[Frame::Expect(TokenKind::Semicolon)]),
-        _ => Ok(Answer::Refused),
+        TokenKind::Identifier => goes(fresh, depth, &[Frame::MoreDotted]),
+        TokenKind::Star => goes(fresh, depth, &[Frame::Expect(TokenKind::Semicolon)]),
+        _ => Answer::Refused,
     }
 }
 
-pub fn more_dotted(stack: &mut Stack, depth: u64, kind: TokenKind) -> Result<Answer, AllocError>
-    requires { depth ≤ 2 ^ 32 }
-    ensures { IfOk result (Does depth (machine.more_dotted kind) (frames_of stack.old) (frames_of stack.new)) }
+pub fn more_dotted(fresh: &mut Fresh, depth: u64, kind: TokenKind) -> Answer
+    requires fits { depth ≤ 2 ^ 32 }
+    requires room { HasRoom 8 fresh.now }
+    ensures { Does depth (machine.more_dotted kind) (frames_of fresh.old) (frames_of fresh.new) result }
 {
     match kind {
-        TokenKind::Dot => goes(stack, depth, &[Frame::DottedName]),
-        TokenKind::Semicolon => goes(stack, depth, &[]),
-        _ => Ok(Answer::Refused),
+        TokenKind::Dot => goes(fresh, depth, &[Frame::DottedName]),
+        TokenKind::Semicolon => goes(fresh, depth, &[]),
+        _ => Answer::Refused,
     }
 }
 
 /// Behind a modifier, but for a name.
-pub fn declaration(stack: &mut Stack, depth: u64, kind: TokenKind) -> Result<Answer, AllocError>
-    requires { depth ≤ 2 ^ 32 }
-    ensures { IfOk result (Does depth (machine.declaration kind) (frames_of stack.old) (frames_of stack.new)) }
+pub fn declaration(fresh: &mut Fresh, depth: u64, kind: TokenKind) -> Answer
+    requires fits { depth ≤ 2 ^ 32 }
+    requires room { HasRoom 8 fresh.now }
+    ensures { Does depth (machine.declaration kind) (frames_of fresh.old) (frames_of fresh.new) result }
 {
     match kind {
         TokenKind::Class => takes(
-            stack,
+            fresh,
             depth,
             0,
             &[
@@ -79,7 +82,7 @@ pub fn declaration(stack: &mut Stack, depth: u64, kind: TokenKind) -> Result<Ans
             ],
         ),
         TokenKind::Interface => takes(
-            stack,
+            fresh,
             depth,
             0,
             &[
@@ -89,7 +92,7 @@ pub fn declaration(stack: &mut Stack, depth: u64, kind: TokenKind) -> Result<Ans
             ],
         ),
         TokenKind::Void => takes(
-            stack,
+            fresh,
             depth,
             0,
             &[
@@ -100,7 +103,7 @@ pub fn declaration(stack: &mut Stack, depth: u64, kind: TokenKind) -> Result<Ans
             ],
         ),
         TokenKind::Var => goes(
-            stack,
+            fresh,
             depth,
             &[
                 Frame::Expect(TokenKind::Identifier),
@@ -109,9 +112,9 @@ pub fn declaration(stack: &mut Stack, depth: u64, kind: TokenKind) -> Result<Ans
                 Frame::Expect(TokenKind::Semicolon),
             ],
         ),
-        _ if is_modifier(kind) => goes(stack, depth, &[Frame::Declaration]),
+        _ if is_modifier(kind) => goes(fresh, depth, &[Frame::Declaration]),
         _ if is_primitive(kind) => goes(
-            stack,
+            fresh,
             depth,
             &[
                 Frame::Brackets,
@@ -119,22 +122,19 @@ pub fn declaration(stack: &mut Stack, depth: u64, kind: TokenKind) -> Result<Ans
                 Frame::MethodOrVariable,
             ],
         ),
-        _ => Ok(Answer::Refused),
+        _ => Answer::Refused,
     }
 }
 
 /// Behind a modifier.
-pub fn declaration_behind(
-    stack: &mut Stack,
-    depth: u64,
-    kind: TokenKind,
-) -> Result<Answer, AllocError>
-    requires { depth ≤ 2 ^ 32 }
-    ensures { IfOk result (Does depth (machine.declaration_behind kind) (frames_of stack.old) (frames_of stack.new)) }
+pub fn declaration_behind(fresh: &mut Fresh, depth: u64, kind: TokenKind) -> Answer
+    requires fits { depth ≤ 2 ^ 32 }
+    requires room { HasRoom 8 fresh.now }
+    ensures { Does depth (machine.declaration_behind kind) (frames_of fresh.old) (frames_of fresh.new) result }
 {
     match kind {
         TokenKind::Identifier => goes(
-            stack,
+            fresh,
             depth,
             &[
                 Frame::Brackets,
@@ -142,21 +142,22 @@ pub fn declaration_behind(
                 Frame::MethodOrVariable,
             ],
         ),
-        _ => declaration(stack, depth, kind),
+        _ => declaration(fresh, depth, kind),
     }
 }
 
-pub fn snippet(stack: &mut Stack, depth: u64, kind: TokenKind) -> Result<Answer, AllocError>
-    requires { depth ≤ 2 ^ 32 }
-    ensures { IfOk result (Does depth (machine.snippet kind) (frames_of stack.old) (frames_of stack.new)) }
+pub fn snippet(fresh: &mut Fresh, depth: u64, kind: TokenKind) -> Answer
+    requires fits { depth ≤ 2 ^ 32 }
+    requires room { HasRoom 8 fresh.now }
+    ensures { Does depth (machine.snippet kind) (frames_of fresh.old) (frames_of fresh.new) result }
 {
     match kind {
-        TokenKind::Import => goes(stack, depth, &[Frame::Import]),
-        TokenKind::Identifier => goes(stack, depth, &[Frame::NamedSnippet]),
-        _ if begins_declaration(kind) => declaration(stack, depth, kind),
-        _ if begins_statement(kind) => statement(stack, depth, kind),
+        TokenKind::Import => goes(fresh, depth, &[Frame::Import]),
+        TokenKind::Identifier => goes(fresh, depth, &[Frame::NamedSnippet]),
+        _ if begins_declaration(kind) => declaration(fresh, depth, kind),
+        _ if begins_statement(kind) => statement(fresh, depth, kind),
         _ => begins_inside(
-            stack,
+            fresh,
             depth,
             0,
             &[(0, Frame::Expect(TokenKind::Semicolon))],
@@ -166,16 +167,17 @@ pub fn snippet(stack: &mut Stack, depth: u64, kind: TokenKind) -> Result<Answer,
     }
 }
 
-pub fn named_snippet(stack: &mut Stack, depth: u64, kind: TokenKind) -> Result<Answer, AllocError>
-    requires { depth ≤ 2 ^ 32 }
-    ensures { IfOk result (Does depth (machine.named_snippet kind) (frames_of stack.old) (frames_of stack.new)) }
+pub fn named_snippet(fresh: &mut Fresh, depth: u64, kind: TokenKind) -> Answer
+    requires fits { depth ≤ 2 ^ 32 }
+    requires room { HasRoom 8 fresh.now }
+    ensures { Does depth (machine.named_snippet kind) (frames_of fresh.old) (frames_of fresh.new) result }
 {
     match kind {
-        TokenKind::Identifier => goes(stack, depth, &[Frame::MethodOrVariable]),
-        TokenKind::LeftBracket => goes(stack, depth, &[Frame::NamedSnippetPair]),
-        TokenKind::Semicolon => goes(stack, depth, &[]),
+        TokenKind::Identifier => goes(fresh, depth, &[Frame::MethodOrVariable]),
+        TokenKind::LeftBracket => goes(fresh, depth, &[Frame::NamedSnippetPair]),
+        TokenKind::Semicolon => goes(fresh, depth, &[]),
         _ => path_inside(
-            stack,
+            fresh,
             depth,
             0,
             &[(0, Frame::Expect(TokenKind::Semicolon))],
@@ -186,17 +188,14 @@ pub fn named_snippet(stack: &mut Stack, depth: u64, kind: TokenKind) -> Result<A
     }
 }
 
-pub fn named_snippet_pair(
-    stack: &mut Stack,
-    depth: u64,
-    kind: TokenKind,
-) -> Result<Answer, AllocError>
-    requires { depth ≤ 2 ^ 32 }
-    ensures { IfOk result (Does depth (machine.named_snippet_pair kind) (frames_of stack.old) (frames_of stack.new)) }
+pub fn named_snippet_pair(fresh: &mut Fresh, depth: u64, kind: TokenKind) -> Answer
+    requires fits { depth ≤ 2 ^ 32 }
+    requires room { HasRoom 8 fresh.now }
+    ensures { Does depth (machine.named_snippet_pair kind) (frames_of fresh.old) (frames_of fresh.new) result }
 {
     match kind {
         TokenKind::RightBracket => goes(
-            stack,
+            fresh,
             depth,
             &[
                 Frame::Brackets,
@@ -205,7 +204,7 @@ pub fn named_snippet_pair(
             ],
         ),
         _ => begins_inside(
-            stack,
+            fresh,
             depth,
             1,
             &[
@@ -225,17 +224,14 @@ pub fn named_snippet_pair(
     }
 }
 
-pub fn method_or_variable(
-    stack: &mut Stack,
-    depth: u64,
-    kind: TokenKind,
-) -> Result<Answer, AllocError>
-    requires { depth ≤ 2 ^ 32 }
-    ensures { IfOk result (Does depth (machine.method_or_variable kind) (frames_of stack.old) (frames_of stack.new)) }
+pub fn method_or_variable(fresh: &mut Fresh, depth: u64, kind: TokenKind) -> Answer
+    requires fits { depth ≤ 2 ^ 32 }
+    requires room { HasRoom 8 fresh.now }
+    ensures { Does depth (machine.method_or_variable kind) (frames_of fresh.old) (frames_of fresh.new) result }
 {
     match kind {
         TokenKind::LeftParen => takes(
-            stack,
+            fresh,
             depth,
             0,
             &[
@@ -245,79 +241,80 @@ pub fn method_or_variable(
             ],
         ),
         TokenKind::Assign => goes(
-            stack,
+            fresh,
             depth,
             &[Frame::Initial, Frame::Expect(TokenKind::Semicolon)],
         ),
-        TokenKind::Semicolon => goes(stack, depth, &[]),
-        _ => Ok(Answer::Refused),
+        TokenKind::Semicolon => goes(fresh, depth, &[]),
+        _ => Answer::Refused,
     }
 }
 
-pub fn superclass(stack: &mut Stack, depth: u64, kind: TokenKind) -> Result<Answer, AllocError>
-    requires { depth ≤ 2 ^ 32 }
-    ensures { IfOk result (Does depth (machine.superclass kind) (frames_of stack.old) (frames_of stack.new)) }
+pub fn superclass(fresh: &mut Fresh, depth: u64, kind: TokenKind) -> Answer
+    requires fits { depth ≤ 2 ^ 32 }
+    requires room { HasRoom 8 fresh.now }
+    ensures { Does depth (machine.superclass kind) (frames_of fresh.old) (frames_of fresh.new) result }
 {
     match kind {
-        TokenKind::Extends => goes(stack, depth, &[Frame::Expect(TokenKind::Identifier)]),
-        _ => Ok(Answer::Passed),
+        TokenKind::Extends => goes(fresh, depth, &[Frame::Expect(TokenKind::Identifier)]),
+        _ => Answer::Passed,
     }
 }
 
 /// A word and names, or nothing.
-pub fn names_behind(
-    stack: &mut Stack,
-    depth: u64,
-    word: TokenKind,
-    kind: TokenKind,
-) -> Result<Answer, AllocError>
-    requires { depth ≤ 2 ^ 32 }
-    ensures { IfOk result (Does depth (machine.names_behind word kind) (frames_of stack.old) (frames_of stack.new)) }
+pub fn names_behind(fresh: &mut Fresh, depth: u64, word: TokenKind, kind: TokenKind) -> Answer
+    requires fits { depth ≤ 2 ^ 32 }
+    requires room { HasRoom 8 fresh.now }
+    ensures { Does depth (machine.names_behind word kind) (frames_of fresh.old) (frames_of fresh.new) result }
 {
     if is_same_word(word, kind) {
-        goes(stack, depth, &[Frame::Names])
+        goes(fresh, depth, &[Frame::Names])
     } else {
-        Ok(Answer::Passed)
+        Answer::Passed
     }
 }
 
-pub fn names(stack: &mut Stack, depth: u64, kind: TokenKind) -> Result<Answer, AllocError>
-    requires { depth ≤ 2 ^ 32 }
-    ensures { IfOk result (Does depth (machine.names kind) (frames_of stack.old) (frames_of stack.new)) }
+pub fn names(fresh: &mut Fresh, depth: u64, kind: TokenKind) -> Answer
+    requires fits { depth ≤ 2 ^ 32 }
+    requires room { HasRoom 8 fresh.now }
+    ensures { Does depth (machine.names kind) (frames_of fresh.old) (frames_of fresh.new) result }
 {
     match kind {
-        TokenKind::Identifier => goes(stack, depth, &[Frame::MoreNames]),
-        _ => Ok(Answer::Refused),
+        TokenKind::Identifier => goes(fresh, depth, &[Frame::MoreNames]),
+        _ => Answer::Refused,
     }
 }
 
-pub fn more_names(stack: &mut Stack, depth: u64, kind: TokenKind) -> Result<Answer, AllocError>
-    requires { depth ≤ 2 ^ 32 }
-    ensures { IfOk result (Does depth (machine.more_names kind) (frames_of stack.old) (frames_of stack.new)) }
+pub fn more_names(fresh: &mut Fresh, depth: u64, kind: TokenKind) -> Answer
+    requires fits { depth ≤ 2 ^ 32 }
+    requires room { HasRoom 8 fresh.now }
+    ensures { Does depth (machine.more_names kind) (frames_of fresh.old) (frames_of fresh.new) result }
 {
     match kind {
-        TokenKind::Comma => goes(stack, depth, &[Frame::Names]),
-        _ => Ok(Answer::Passed),
+        TokenKind::Comma => goes(fresh, depth, &[Frame::Names]),
+        _ => Answer::Passed,
     }
 }
 
-pub fn parameters(stack: &mut Stack, depth: u64, kind: TokenKind) -> Result<Answer, AllocError>
-    requires { depth ≤ 2 ^ 32 }
-    ensures { IfOk result (Does depth (machine.parameters kind) (frames_of stack.old) (frames_of stack.new)) }
+pub fn parameters(fresh: &mut Fresh, depth: u64, kind: TokenKind) -> Answer
+    requires fits { depth ≤ 2 ^ 32 }
+    requires room { HasRoom 8 fresh.now }
+    ensures { Does depth (machine.parameters kind) (frames_of fresh.old) (frames_of fresh.new) result }
 {
     match kind {
-        TokenKind::LeftParen => goes(stack, depth, &[Frame::ParametersInside]),
-        _ => Ok(Answer::Refused),
+        TokenKind::LeftParen => goes(fresh, depth, &[Frame::ParametersInside]),
+        _ => Answer::Refused,
     }
 }
 
-pub fn parameter(stack: &mut Stack, depth: u64, kind: TokenKind) -> Result<Answer, AllocError>
-    requires { depth ≤ 2 ^ 32 }
-    ensures { IfOk result (Does depth (machine.parameter kind) (frames_of stack.old) (frames_of stack.new)) }
+pub fn parameter(fresh: &mut Fresh, depth: u64, kind: TokenKind) -> Answer
+    requires fits { depth ≤ 2 ^ 32 }
+    requires room { HasRoom 8 fresh.now }
+    ensures { Does depth (machine.parameter kind) (frames_of fresh.old) (frames_of fresh.new) result }
 {
     match kind {
         TokenKind::Final => goes(
-            stack,
+            fresh,
             depth,
             &[
                 Frame::Type,
@@ -326,7 +323,7 @@ pub fn parameter(stack: &mut Stack, depth: u64, kind: TokenKind) -> Result<Answe
             ],
         ),
         TokenKind::Identifier => goes(
-            stack,
+            fresh,
             depth,
             &[
                 Frame::Brackets,
@@ -335,7 +332,7 @@ pub fn parameter(stack: &mut Stack, depth: u64, kind: TokenKind) -> Result<Answe
             ],
         ),
         _ if is_primitive(kind) => goes(
-            stack,
+            fresh,
             depth,
             &[
                 Frame::Brackets,
@@ -343,52 +340,52 @@ pub fn parameter(stack: &mut Stack, depth: u64, kind: TokenKind) -> Result<Answe
                 Frame::MoreParameters,
             ],
         ),
-        _ => Ok(Answer::Refused),
+        _ => Answer::Refused,
     }
 }
 
-pub fn parameters_inside(
-    stack: &mut Stack,
-    depth: u64,
-    kind: TokenKind,
-) -> Result<Answer, AllocError>
-    requires { depth ≤ 2 ^ 32 }
-    ensures { IfOk result (Does depth (machine.parameters_inside kind) (frames_of stack.old) (frames_of stack.new)) }
+pub fn parameters_inside(fresh: &mut Fresh, depth: u64, kind: TokenKind) -> Answer
+    requires fits { depth ≤ 2 ^ 32 }
+    requires room { HasRoom 8 fresh.now }
+    ensures { Does depth (machine.parameters_inside kind) (frames_of fresh.old) (frames_of fresh.new) result }
 {
     match kind {
-        TokenKind::RightParen => goes(stack, depth, &[]),
-        _ => parameter(stack, depth, kind),
+        TokenKind::RightParen => goes(fresh, depth, &[]),
+        _ => parameter(fresh, depth, kind),
     }
 }
 
-pub fn more_parameters(stack: &mut Stack, depth: u64, kind: TokenKind) -> Result<Answer, AllocError>
-    requires { depth ≤ 2 ^ 32 }
-    ensures { IfOk result (Does depth (machine.more_parameters kind) (frames_of stack.old) (frames_of stack.new)) }
+pub fn more_parameters(fresh: &mut Fresh, depth: u64, kind: TokenKind) -> Answer
+    requires fits { depth ≤ 2 ^ 32 }
+    requires room { HasRoom 8 fresh.now }
+    ensures { Does depth (machine.more_parameters kind) (frames_of fresh.old) (frames_of fresh.new) result }
 {
     match kind {
-        TokenKind::RightParen => goes(stack, depth, &[]),
-        TokenKind::Comma => goes(stack, depth, &[Frame::Parameter]),
-        _ => Ok(Answer::Refused),
+        TokenKind::RightParen => goes(fresh, depth, &[]),
+        TokenKind::Comma => goes(fresh, depth, &[Frame::Parameter]),
+        _ => Answer::Refused,
     }
 }
 
-pub fn class_body(stack: &mut Stack, depth: u64, kind: TokenKind) -> Result<Answer, AllocError>
-    requires { depth ≤ 2 ^ 32 }
-    ensures { IfOk result (Does depth (machine.class_body kind) (frames_of stack.old) (frames_of stack.new)) }
+pub fn class_body(fresh: &mut Fresh, depth: u64, kind: TokenKind) -> Answer
+    requires fits { depth ≤ 2 ^ 32 }
+    requires room { HasRoom 8 fresh.now }
+    ensures { Does depth (machine.class_body kind) (frames_of fresh.old) (frames_of fresh.new) result }
 {
     match kind {
-        TokenKind::LeftBrace => goes(stack, depth, &[Frame::Members]),
-        _ => Ok(Answer::Refused),
+        TokenKind::LeftBrace => goes(fresh, depth, &[Frame::Members]),
+        _ => Answer::Refused,
     }
 }
 
-pub fn class_member(stack: &mut Stack, depth: u64, kind: TokenKind) -> Result<Answer, AllocError>
-    requires { depth ≤ 2 ^ 32 }
-    ensures { IfOk result (Does depth (machine.class_member kind) (frames_of stack.old) (frames_of stack.new)) }
+pub fn class_member(fresh: &mut Fresh, depth: u64, kind: TokenKind) -> Answer
+    requires fits { depth ≤ 2 ^ 32 }
+    requires room { HasRoom 8 fresh.now }
+    ensures { Does depth (machine.class_member kind) (frames_of fresh.old) (frames_of fresh.new) result }
 {
     match kind {
         TokenKind::Void => goes(
-            stack,
+            fresh,
             depth,
             &[
                 Frame::Expect(TokenKind::Identifier),
@@ -398,10 +395,10 @@ pub fn class_member(stack: &mut Stack, depth: u64, kind: TokenKind) -> Result<An
                 Frame::Members,
             ],
         ),
-        TokenKind::Identifier => goes(stack, depth, &[Frame::NamedMember]),
-        _ if is_member_modifier(kind) => goes(stack, depth, &[Frame::ClassMember]),
+        TokenKind::Identifier => goes(fresh, depth, &[Frame::NamedMember]),
+        _ if is_member_modifier(kind) => goes(fresh, depth, &[Frame::ClassMember]),
         _ if is_primitive(kind) => goes(
-            stack,
+            fresh,
             depth,
             &[
                 Frame::Brackets,
@@ -410,28 +407,30 @@ pub fn class_member(stack: &mut Stack, depth: u64, kind: TokenKind) -> Result<An
                 Frame::Members,
             ],
         ),
-        _ => Ok(Answer::Refused),
+        _ => Answer::Refused,
     }
 }
 
-pub fn members(stack: &mut Stack, depth: u64, kind: TokenKind) -> Result<Answer, AllocError>
-    requires { depth ≤ 2 ^ 32 }
-    ensures { IfOk result (Does depth (machine.members kind) (frames_of stack.old) (frames_of stack.new)) }
+pub fn members(fresh: &mut Fresh, depth: u64, kind: TokenKind) -> Answer
+    requires fits { depth ≤ 2 ^ 32 }
+    requires room { HasRoom 8 fresh.now }
+    ensures { Does depth (machine.members kind) (frames_of fresh.old) (frames_of fresh.new) result }
 {
     match kind {
-        TokenKind::RightBrace => goes(stack, depth, &[]),
-        TokenKind::Semicolon => goes(stack, depth, &[Frame::Members]),
-        _ => class_member(stack, depth, kind),
+        TokenKind::RightBrace => goes(fresh, depth, &[]),
+        TokenKind::Semicolon => goes(fresh, depth, &[Frame::Members]),
+        _ => class_member(fresh, depth, kind),
     }
 }
 
-pub fn named_member(stack: &mut Stack, depth: u64, kind: TokenKind) -> Result<Answer, AllocError>
-    requires { depth ≤ 2 ^ 32 }
-    ensures { IfOk result (Does depth (machine.named_member kind) (frames_of stack.old) (frames_of stack.new)) }
+pub fn named_member(fresh: &mut Fresh, depth: u64, kind: TokenKind) -> Answer
+    requires fits { depth ≤ 2 ^ 32 }
+    requires room { HasRoom 8 fresh.now }
+    ensures { Does depth (machine.named_member kind) (frames_of fresh.old) (frames_of fresh.new) result }
 {
     match kind {
         TokenKind::LeftParen => takes(
-            stack,
+            fresh,
             depth,
             0,
             &[
@@ -442,7 +441,7 @@ pub fn named_member(stack: &mut Stack, depth: u64, kind: TokenKind) -> Result<An
             ],
         ),
         TokenKind::LeftBracket => goes(
-            stack,
+            fresh,
             depth,
             &[
                 Frame::Expect(TokenKind::RightBracket),
@@ -452,18 +451,19 @@ pub fn named_member(stack: &mut Stack, depth: u64, kind: TokenKind) -> Result<An
                 Frame::Members,
             ],
         ),
-        TokenKind::Identifier => goes(stack, depth, &[Frame::FieldOrMethod, Frame::Members]),
-        _ => Ok(Answer::Refused),
+        TokenKind::Identifier => goes(fresh, depth, &[Frame::FieldOrMethod, Frame::Members]),
+        _ => Answer::Refused,
     }
 }
 
-pub fn field_or_method(stack: &mut Stack, depth: u64, kind: TokenKind) -> Result<Answer, AllocError>
-    requires { depth ≤ 2 ^ 32 }
-    ensures { IfOk result (Does depth (machine.field_or_method kind) (frames_of stack.old) (frames_of stack.new)) }
+pub fn field_or_method(fresh: &mut Fresh, depth: u64, kind: TokenKind) -> Answer
+    requires fits { depth ≤ 2 ^ 32 }
+    requires room { HasRoom 8 fresh.now }
+    ensures { Does depth (machine.field_or_method kind) (frames_of fresh.old) (frames_of fresh.new) result }
 {
     match kind {
         TokenKind::LeftParen => goes(
-            stack,
+            fresh,
             depth,
             &[
                 Frame::ParametersInside,
@@ -472,58 +472,58 @@ pub fn field_or_method(stack: &mut Stack, depth: u64, kind: TokenKind) -> Result
             ],
         ),
         TokenKind::Assign => goes(
-            stack,
+            fresh,
             depth,
             &[Frame::Initial, Frame::Expect(TokenKind::Semicolon)],
         ),
-        TokenKind::Semicolon => goes(stack, depth, &[]),
-        _ => Ok(Answer::Refused),
+        TokenKind::Semicolon => goes(fresh, depth, &[]),
+        _ => Answer::Refused,
     }
 }
 
-pub fn method_body(stack: &mut Stack, depth: u64, kind: TokenKind) -> Result<Answer, AllocError>
-    requires { depth ≤ 2 ^ 32 }
-    ensures { IfOk result (Does depth (machine.method_body kind) (frames_of stack.old) (frames_of stack.new)) }
+pub fn method_body(fresh: &mut Fresh, depth: u64, kind: TokenKind) -> Answer
+    requires fits { depth ≤ 2 ^ 32 }
+    requires room { HasRoom 8 fresh.now }
+    ensures { Does depth (machine.method_body kind) (frames_of fresh.old) (frames_of fresh.new) result }
 {
     match kind {
-        TokenKind::Semicolon => goes(stack, depth, &[]),
-        TokenKind::LeftBrace => takes(stack, depth, 1, &[(1, Frame::Statements)]),
-        _ => Ok(Answer::Refused),
+        TokenKind::Semicolon => goes(fresh, depth, &[]),
+        TokenKind::LeftBrace => takes(fresh, depth, 1, &[(1, Frame::Statements)]),
+        _ => Answer::Refused,
     }
 }
 
-pub fn constructor_body(
-    stack: &mut Stack,
-    depth: u64,
-    kind: TokenKind,
-) -> Result<Answer, AllocError>
-    requires { depth ≤ 2 ^ 32 }
-    ensures { IfOk result (Does depth (machine.constructor_body kind) (frames_of stack.old) (frames_of stack.new)) }
+pub fn constructor_body(fresh: &mut Fresh, depth: u64, kind: TokenKind) -> Answer
+    requires fits { depth ≤ 2 ^ 32 }
+    requires room { HasRoom 8 fresh.now }
+    ensures { Does depth (machine.constructor_body kind) (frames_of fresh.old) (frames_of fresh.new) result }
 {
     match kind {
-        TokenKind::LeftBrace => goes(stack, depth, &[Frame::FirstCall]),
-        _ => Ok(Answer::Refused),
+        TokenKind::LeftBrace => goes(fresh, depth, &[Frame::FirstCall]),
+        _ => Answer::Refused,
     }
 }
 
-pub fn first_call(stack: &mut Stack, depth: u64, kind: TokenKind) -> Result<Answer, AllocError>
-    requires { depth ≤ 2 ^ 32 }
-    ensures { IfOk result (Does depth (machine.first_call kind) (frames_of stack.old) (frames_of stack.new)) }
+pub fn first_call(fresh: &mut Fresh, depth: u64, kind: TokenKind) -> Answer
+    requires fits { depth ≤ 2 ^ 32 }
+    requires room { HasRoom 8 fresh.now }
+    ensures { Does depth (machine.first_call kind) (frames_of fresh.old) (frames_of fresh.new) result }
 {
     match kind {
-        TokenKind::This => goes(stack, depth, &[Frame::ThisFirst]),
-        TokenKind::Super => goes(stack, depth, &[Frame::SuperFirst]),
-        _ => statements(stack, depth, kind),
+        TokenKind::This => goes(fresh, depth, &[Frame::ThisFirst]),
+        TokenKind::Super => goes(fresh, depth, &[Frame::SuperFirst]),
+        _ => statements(fresh, depth, kind),
     }
 }
 
 /// What stands behind the arguments of the first call of a constructor.
-fn called_first(stack: &mut Stack, depth: u64) -> Result<Answer, AllocError>
-    requires { depth ≤ 2 ^ 32 }
-    ensures { IfOk result (Does depth machine.called_first (frames_of stack.old) (frames_of stack.new)) }
+fn called_first(fresh: &mut Fresh, depth: u64) -> Answer
+    requires fits { depth ≤ 2 ^ 32 }
+    requires room { HasRoom 8 fresh.now }
+    ensures { Does depth machine.called_first (frames_of fresh.old) (frames_of fresh.new) result }
 {
     takes(
-        stack,
+        fresh,
         depth,
         1,
         &[
@@ -534,14 +534,15 @@ fn called_first(stack: &mut Stack, depth: u64) -> Result<Answer, AllocError>
     )
 }
 
-pub fn this_first(stack: &mut Stack, depth: u64, kind: TokenKind) -> Result<Answer, AllocError>
-    requires { depth ≤ 2 ^ 32 }
-    ensures { IfOk result (Does depth (machine.this_first kind) (frames_of stack.old) (frames_of stack.new)) }
+pub fn this_first(fresh: &mut Fresh, depth: u64, kind: TokenKind) -> Answer
+    requires fits { depth ≤ 2 ^ 32 }
+    requires room { HasRoom 8 fresh.now }
+    ensures { Does depth (machine.this_first kind) (frames_of fresh.old) (frames_of fresh.new) result }
 {
     match kind {
-        TokenKind::LeftParen => called_first(stack, depth),
+        TokenKind::LeftParen => called_first(fresh, depth),
         _ => path_inside(
-            stack,
+            fresh,
             depth,
             0,
             &[
@@ -555,14 +556,15 @@ pub fn this_first(stack: &mut Stack, depth: u64, kind: TokenKind) -> Result<Answ
     }
 }
 
-pub fn super_first(stack: &mut Stack, depth: u64, kind: TokenKind) -> Result<Answer, AllocError>
-    requires { depth ≤ 2 ^ 32 }
-    ensures { IfOk result (Does depth (machine.super_first kind) (frames_of stack.old) (frames_of stack.new)) }
+pub fn super_first(fresh: &mut Fresh, depth: u64, kind: TokenKind) -> Answer
+    requires fits { depth ≤ 2 ^ 32 }
+    requires room { HasRoom 8 fresh.now }
+    ensures { Does depth (machine.super_first kind) (frames_of fresh.old) (frames_of fresh.new) result }
 {
     match kind {
-        TokenKind::LeftParen => called_first(stack, depth),
+        TokenKind::LeftParen => called_first(fresh, depth),
         TokenKind::Dot => goes(
-            stack,
+            fresh,
             depth,
             &[
                 Frame::Expect(TokenKind::Identifier),
@@ -575,27 +577,29 @@ pub fn super_first(stack: &mut Stack, depth: u64, kind: TokenKind) -> Result<Ans
                 Frame::Statements,
             ],
         ),
-        _ => Ok(Answer::Refused),
+        _ => Answer::Refused,
     }
 }
 
-pub fn interface_body(stack: &mut Stack, depth: u64, kind: TokenKind) -> Result<Answer, AllocError>
-    requires { depth ≤ 2 ^ 32 }
-    ensures { IfOk result (Does depth (machine.interface_body kind) (frames_of stack.old) (frames_of stack.new)) }
+pub fn interface_body(fresh: &mut Fresh, depth: u64, kind: TokenKind) -> Answer
+    requires fits { depth ≤ 2 ^ 32 }
+    requires room { HasRoom 8 fresh.now }
+    ensures { Does depth (machine.interface_body kind) (frames_of fresh.old) (frames_of fresh.new) result }
 {
     match kind {
-        TokenKind::LeftBrace => goes(stack, depth, &[Frame::Signatures]),
-        _ => Ok(Answer::Refused),
+        TokenKind::LeftBrace => goes(fresh, depth, &[Frame::Signatures]),
+        _ => Answer::Refused,
     }
 }
 
-pub fn signature(stack: &mut Stack, depth: u64, kind: TokenKind) -> Result<Answer, AllocError>
-    requires { depth ≤ 2 ^ 32 }
-    ensures { IfOk result (Does depth (machine.signature kind) (frames_of stack.old) (frames_of stack.new)) }
+pub fn signature(fresh: &mut Fresh, depth: u64, kind: TokenKind) -> Answer
+    requires fits { depth ≤ 2 ^ 32 }
+    requires room { HasRoom 8 fresh.now }
+    ensures { Does depth (machine.signature kind) (frames_of fresh.old) (frames_of fresh.new) result }
 {
     match kind {
         TokenKind::Void => goes(
-            stack,
+            fresh,
             depth,
             &[
                 Frame::Expect(TokenKind::Identifier),
@@ -606,7 +610,7 @@ pub fn signature(stack: &mut Stack, depth: u64, kind: TokenKind) -> Result<Answe
             ],
         ),
         TokenKind::Identifier => goes(
-            stack,
+            fresh,
             depth,
             &[
                 Frame::Brackets,
@@ -617,9 +621,9 @@ pub fn signature(stack: &mut Stack, depth: u64, kind: TokenKind) -> Result<Answe
                 Frame::Signatures,
             ],
         ),
-        _ if is_interface_modifier(kind) => goes(stack, depth, &[Frame::Signature]),
+        _ if is_interface_modifier(kind) => goes(fresh, depth, &[Frame::Signature]),
         _ if is_primitive(kind) => goes(
-            stack,
+            fresh,
             depth,
             &[
                 Frame::Brackets,
@@ -630,16 +634,17 @@ pub fn signature(stack: &mut Stack, depth: u64, kind: TokenKind) -> Result<Answe
                 Frame::Signatures,
             ],
         ),
-        _ => Ok(Answer::Refused),
+        _ => Answer::Refused,
     }
 }
 
-pub fn signatures(stack: &mut Stack, depth: u64, kind: TokenKind) -> Result<Answer, AllocError>
-    requires { depth ≤ 2 ^ 32 }
-    ensures { IfOk result (Does depth (machine.signatures kind) (frames_of stack.old) (frames_of stack.new)) }
+pub fn signatures(fresh: &mut Fresh, depth: u64, kind: TokenKind) -> Answer
+    requires fits { depth ≤ 2 ^ 32 }
+    requires room { HasRoom 8 fresh.now }
+    ensures { Does depth (machine.signatures kind) (frames_of fresh.old) (frames_of fresh.new) result }
 {
     match kind {
-        TokenKind::RightBrace => goes(stack, depth, &[]),
-        _ => signature(stack, depth, kind),
+        TokenKind::RightBrace => goes(fresh, depth, &[]),
+        _ => signature(fresh, depth, kind),
     }
 }

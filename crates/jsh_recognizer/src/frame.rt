@@ -28,7 +28,7 @@ pub enum Ending {
 }
 
 /// What may still come.
-#[derive(Clone, Copy, Debug, PartialEq, Eq)]
+#[derive(Clone, Copy, Debug, Default, PartialEq, Eq)]
 pub enum Frame {
     /// This token.
     Expect(TokenKind),
@@ -136,6 +136,7 @@ pub enum Frame {
     MoreCatches,
     CatchType,
 
+    #[default]
     Snippet,
     Import,
     DottedName,

@@ -3,14 +3,17 @@
 
 mod answer;
 mod classes;
+mod creations;
 mod declarations;
+#[cfg(test)]
+mod deep_tests;
 mod frame;
+mod fresh;
 mod laws;
 mod moves;
 mod operands;
 mod recognizer;
 mod scanner;
-mod stack;
 mod statements;
 mod stops;
 #[cfg(test)]
@@ -18,5 +21,5 @@ mod tests;
 
 pub use frame::{Context, Ending, Frame};
 pub use laws::recognizer_takes_prefixes;
-pub use recognizer::{Advance, Recognizer, Start};
+pub use recognizer::{Advance, LIMIT, Recognizer, Start};
 pub use scanner::{End, Scanned, scan};

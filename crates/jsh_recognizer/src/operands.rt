@@ -1,9 +1,9 @@
 //! The moves of frames of expressions.
 
-ghost use Rattle.std.specs.Prelude.{◌≡◌, ◌<◌, ◌≤◌, ◌^◌, IfOk};
+ghost use Rattle.std.specs.Prelude.{◌≡◌, ◌+◌, ◌<◌, ◌≤◌, ◌^◌, length};
 ghost use Rattle.jsh_recognizer.specs.Machine as machine;
 ghost use Rattle.jsh_recognizer.specs.declared.frame.Frame.TheVariants as frame;
-ghost use Rattle.jsh_recognizer.specs.Stacks.{frames_of, Does, behind_whole, begins_plainly, may_step};
+ghost use Rattle.jsh_recognizer.specs.Stacks.{frames_of, HasRoom, Does, behind_whole, begins_plainly, may_step};
 
 use crate::answer::{Answer, goes, takes};
 use crate::classes::{
@@ -11,28 +11,23 @@ use crate::classes::{
     is_sign, is_step, is_tight_operator,
 };
 use crate::frame::{Context, Ending, Frame};
-use crate::stack::Stack;
+use crate::fresh::{Fresh, put_all};
 use jsh_tree::TokenKind;
-use std::alloc::AllocError;
 
 /// Behind an operand among operators.
-pub fn behind_operand(
-    stack: &mut Stack,
-    depth: u64,
-    behind_type: bool,
-    kind: TokenKind,
-) -> Result<Answer, AllocError>
-    requires { depth < 2 ^ 33 }
-    ensures { IfOk result (Does depth (machine.behind_operand behind_type kind) (frames_of stack.old) (frames_of stack.new)) }
+pub fn behind_operand(fresh: &mut Fresh, depth: u64, behind_type: bool, kind: TokenKind) -> Answer
+    requires fits { depth < 2 ^ 33 }
+    requires room { HasRoom 3 fresh.now }
+    ensures { Does depth (machine.behind_operand behind_type kind) (frames_of fresh.old) (frames_of fresh.new) result }
 {
     match kind {
         TokenKind::Instanceof => goes(
-            stack,
+            fresh,
             depth,
             &[Frame::Type, Frame::Operators { behind_type: true }],
         ),
         TokenKind::Question => takes(
-            stack,
+            fresh,
             depth,
             0,
             &[
@@ -43,12 +38,12 @@ pub fn behind_operand(
         ),
         _ if is_loose_operator(kind) || (!behind_type && is_tight_operator(kind)) => {
             goes(
-                stack,
+                fresh,
                 depth,
                 &[Frame::Operand, Frame::Operators { behind_type: false }],
             )
         }
-        _ => Ok(Answer::Passed),
+        _ => Answer::Passed,
     }
 }
 
@@ -82,18 +77,14 @@ fn rest_of(context: Context) -> &'static [(u32, Frame)]
 }
 
 /// How an operand begins that no token of its own announces.
-fn begins_plainly(
-    stack: &mut Stack,
-    depth: u64,
-    context: Context,
-    kind: TokenKind,
-) -> Result<Answer, AllocError>
-    requires { depth < 2 ^ 33 }
-    ensures { IfOk result (Does depth (begins_plainly context kind) (frames_of stack.old) (frames_of stack.new)) }
+fn begins_plainly(fresh: &mut Fresh, depth: u64, context: Context, kind: TokenKind) -> Answer
+    requires fits { depth < 2 ^ 33 }
+    requires room { HasRoom 2 fresh.now }
+    ensures { Does depth (begins_plainly context kind) (frames_of fresh.old) (frames_of fresh.new) result }
 {
     if is_literal(kind) {
         goes(
-            stack,
+            fresh,
             depth,
             &[Frame::Path {
                 context,
@@ -101,29 +92,25 @@ fn begins_plainly(
             }],
         )
     } else if is_step(kind) && may_step(context) {
-        stack.put_all(depth, rest_of(context))?;
-        takes(stack, depth, 0, &[(1, Frame::Target)])
+        put_all(fresh, depth, rest_of(context));
+        takes(fresh, depth, 0, &[(1, Frame::Target)])
     } else if is_prefix(kind) && may_cast(context) {
-        stack.put_all(depth, rest_of(context))?;
-        takes(stack, depth, 0, &[(1, Frame::Operand)])
+        put_all(fresh, depth, rest_of(context));
+        takes(fresh, depth, 0, &[(1, Frame::Operand)])
     } else {
-        Ok(Answer::Refused)
+        Answer::Refused
     }
 }
 
 /// How an operand begins.
-pub fn begins(
-    stack: &mut Stack,
-    depth: u64,
-    context: Context,
-    kind: TokenKind,
-) -> Result<Answer, AllocError>
-    requires { depth < 2 ^ 33 }
-    ensures { IfOk result (Does depth (machine.begins context kind) (frames_of stack.old) (frames_of stack.new)) }
+pub fn begins(fresh: &mut Fresh, depth: u64, context: Context, kind: TokenKind) -> Answer
+    requires fits { depth < 2 ^ 33 }
+    requires room { HasRoom 4 fresh.now }
+    ensures { Does depth (machine.begins context kind) (frames_of fresh.old) (frames_of fresh.new) result }
 {
     match kind {
         TokenKind::Identifier => goes(
-            stack,
+            fresh,
             depth,
             &[Frame::Path {
                 context,
@@ -131,7 +118,7 @@ pub fn begins(
             }],
         ),
         TokenKind::This => goes(
-            stack,
+            fresh,
             depth,
             &[Frame::Path {
                 context,
@@ -139,13 +126,13 @@ pub fn begins(
             }],
         ),
         TokenKind::LeftParen if may_cast(context) => takes(
-            stack,
+            fresh,
             depth,
             1,
             &[(0, Frame::Opened(context))],
         ),
         TokenKind::LeftParen => takes(
-            stack,
+            fresh,
             depth,
             1,
             &[
@@ -161,7 +148,7 @@ pub fn begins(
             ],
         ),
         TokenKind::Super => goes(
-            stack,
+            fresh,
             depth,
             &[
                 Frame::Expect(TokenKind::Dot),
@@ -173,45 +160,42 @@ pub fn begins(
                 },
             ],
         ),
-        TokenKind::New => goes(stack, depth, &[Frame::New(context)]),
-        _ => begins_plainly(stack, depth, context, kind),
+        TokenKind::New => goes(fresh, depth, &[Frame::New(context)]),
+        _ => begins_plainly(fresh, depth, context, kind),
     }
 }
 
 /// Behind an operand that may be all of an expression.
-fn behind_whole(
-    stack: &mut Stack,
-    depth: u64,
-    ending: Ending,
-    kind: TokenKind,
-) -> Result<Answer, AllocError>
-    requires { depth < 2 ^ 33 }
-    ensures { IfOk result (Does depth (behind_whole ending kind) (frames_of stack.old) (frames_of stack.new)) }
+fn behind_whole(fresh: &mut Fresh, depth: u64, ending: Ending, kind: TokenKind) -> Answer
+    requires fits { depth < 2 ^ 33 }
+    requires room { HasRoom 3 fresh.now }
+    ensures { Does depth (behind_whole ending kind) (frames_of fresh.old) (frames_of fresh.new) result }
 {
     if is_step(kind) && is_target(ending) {
-        takes(stack, depth, 0, rest_of(Context::Expression))
+        takes(fresh, depth, 0, rest_of(Context::Expression))
     } else if is_assignment(kind) && is_target(ending) {
-        takes(stack, depth, 0, &[(1, Frame::Expression)])
+        takes(fresh, depth, 0, &[(1, Frame::Expression)])
     } else {
-        behind_operand(stack, depth, false, kind)
+        behind_operand(fresh, depth, false, kind)
     }
 }
 
 /// Behind an operand.
 pub fn behind_path(
-    stack: &mut Stack,
+    fresh: &mut Fresh,
     depth: u64,
     context: Context,
     ending: Ending,
     kind: TokenKind,
-) -> Result<Answer, AllocError>
-    requires { depth < 2 ^ 33 }
-    ensures { IfOk result (Does depth (machine.behind_path context ending kind) (frames_of stack.old) (frames_of stack.new)) }
+) -> Answer
+    requires fits { depth < 2 ^ 33 }
+    requires room { HasRoom 3 fresh.now }
+    ensures { Does depth (machine.behind_path context ending kind) (frames_of fresh.old) (frames_of fresh.new) result }
 {
     match kind {
-        TokenKind::Dot => goes(stack, depth, &[Frame::Member(context)]),
+        TokenKind::Dot => goes(fresh, depth, &[Frame::Member(context)]),
         TokenKind::LeftBracket => takes(
-            stack,
+            fresh,
             depth,
             1,
             &[
@@ -227,7 +211,7 @@ pub fn behind_path(
             ],
         ),
         TokenKind::LeftParen if matches!(ending, Ending::Name) => takes(
-            stack,
+            fresh,
             depth,
             1,
             &[
@@ -242,119 +226,115 @@ pub fn behind_path(
             ],
         ),
         _ => match context {
-            Context::Expression => behind_whole(stack, depth, ending, kind),
-            Context::Operand if is_step(kind) && is_target(ending) => goes(stack, depth, &[]),
-            Context::Operand => Ok(Answer::Passed),
-            Context::Target if is_step(kind) || !is_target(ending) => Ok(Answer::Refused),
-            Context::Target => Ok(Answer::Passed),
-            Context::Effect if is_step(kind) && is_target(ending) => goes(stack, depth, &[]),
+            Context::Expression => behind_whole(fresh, depth, ending, kind),
+            Context::Operand if is_step(kind) && is_target(ending) => goes(fresh, depth, &[]),
+            Context::Operand => Answer::Passed,
+            Context::Target if is_step(kind) || !is_target(ending) => Answer::Refused,
+            Context::Target => Answer::Passed,
+            Context::Effect if is_step(kind) && is_target(ending) => goes(fresh, depth, &[]),
             Context::Effect if is_assignment(kind) && is_target(ending) => takes(
-                stack,
+                fresh,
                 depth,
                 0,
                 &[(1, Frame::Expression)],
             ),
-            Context::Effect if matches!(ending, Ending::Call) => Ok(Answer::Passed),
-            Context::Effect => Ok(Answer::Refused),
+            Context::Effect if matches!(ending, Ending::Call) => Answer::Passed,
+            Context::Effect => Answer::Refused,
         },
     }
 }
 
 /// An operand inside others, so many parts deeper than these that stand behind it.
 pub fn begins_inside(
-    stack: &mut Stack,
+    fresh: &mut Fresh,
     depth: u64,
     deeper: u32,
     more: &[(u32, Frame)],
     context: Context,
     kind: TokenKind,
-) -> Result<Answer, AllocError>
-    requires { depth ≤ 2 ^ 32 }
-    ensures { IfOk result (Does depth (machine.inside deeper more.now (machine.begins context kind)) (frames_of stack.old) (frames_of stack.new)) }
+) -> Answer
+    requires fits { depth ≤ 2 ^ 32 }
+    requires room { HasRoom (length more.now + 4) fresh.now }
+    ensures { Does depth (machine.inside deeper more.now (machine.begins context kind)) (frames_of fresh.old) (frames_of fresh.new) result }
 {
-    stack.put_all(depth, more)?;
-    let answer = begins(stack, depth + u64::from(deeper), context, kind)?;
-    Ok(answer.closed())
+    put_all(fresh, depth, more);
+    let answer = begins(fresh, depth + u64::from(deeper), context, kind);
+    answer.closed()
 }
 
 /// What stands behind such an operand.
 pub fn path_inside(
-    stack: &mut Stack,
+    fresh: &mut Fresh,
     depth: u64,
     deeper: u32,
     more: &[(u32, Frame)],
     context: Context,
     ending: Ending,
     kind: TokenKind,
-) -> Result<Answer, AllocError>
-    requires { depth ≤ 2 ^ 32 }
-    ensures { IfOk result (Does depth (machine.inside deeper more.now (machine.behind_path context ending kind)) (frames_of stack.old) (frames_of stack.new)) }
+) -> Answer
+    requires fits { depth ≤ 2 ^ 32 }
+    requires room { HasRoom (length more.now + 3) fresh.now }
+    ensures { Does depth (machine.inside deeper more.now (machine.behind_path context ending kind)) (frames_of fresh.old) (frames_of fresh.new) result }
 {
-    stack.put_all(depth, more)?;
-    let answer = behind_path(stack, depth + u64::from(deeper), context, ending, kind)?;
-    Ok(answer.closed())
+    put_all(fresh, depth, more);
+    let answer = behind_path(fresh, depth + u64::from(deeper), context, ending, kind);
+    answer.closed()
 }
 
 /// Behind a dot.
-pub fn member(
-    stack: &mut Stack,
-    depth: u64,
-    context: Context,
-    kind: TokenKind,
-) -> Result<Answer, AllocError>
-    requires { depth ≤ 2 ^ 32 }
-    ensures { IfOk result (Does depth (machine.move_of (frame.Member context) kind) (frames_of stack.old) (frames_of stack.new)) }
+pub fn member(fresh: &mut Fresh, depth: u64, context: Context, kind: TokenKind) -> Answer
+    requires fits { depth ≤ 2 ^ 32 }
+    requires room { HasRoom 8 fresh.now }
+    ensures { Does depth (machine.move_of (frame.Member context) kind) (frames_of fresh.old) (frames_of fresh.new) result }
 {
     match kind {
         TokenKind::Identifier => goes(
-            stack,
+            fresh,
             depth,
             &[Frame::Path {
                 context,
                 ending: Ending::Name,
             }],
         ),
-        _ => Ok(Answer::Refused),
+        _ => Answer::Refused,
     }
 }
 
 /// A parenthesis and arguments.
-pub fn open_arguments(stack: &mut Stack, depth: u64, kind: TokenKind) -> Result<Answer, AllocError>
-    requires { depth ≤ 2 ^ 32 }
-    ensures { IfOk result (Does depth (machine.move_of frame.OpenArguments kind) (frames_of stack.old) (frames_of stack.new)) }
+pub fn open_arguments(fresh: &mut Fresh, depth: u64, kind: TokenKind) -> Answer
+    requires fits { depth ≤ 2 ^ 32 }
+    requires room { HasRoom 8 fresh.now }
+    ensures { Does depth (machine.move_of frame.OpenArguments kind) (frames_of fresh.old) (frames_of fresh.new) result }
 {
     match kind {
-        TokenKind::LeftParen => takes(stack, depth, 1, &[(1, Frame::Arguments)]),
-        _ => Ok(Answer::Refused),
+        TokenKind::LeftParen => takes(fresh, depth, 1, &[(1, Frame::Arguments)]),
+        _ => Answer::Refused,
     }
 }
 
 /// The operand of a cast to a named type.
-pub fn unsigned(stack: &mut Stack, depth: u64, kind: TokenKind) -> Result<Answer, AllocError>
-    requires { depth ≤ 2 ^ 32 }
-    ensures { IfOk result (Does depth (machine.move_of frame.Unsigned kind) (frames_of stack.old) (frames_of stack.new)) }
+pub fn unsigned(fresh: &mut Fresh, depth: u64, kind: TokenKind) -> Answer
+    requires fits { depth ≤ 2 ^ 32 }
+    requires room { HasRoom 8 fresh.now }
+    ensures { Does depth (machine.move_of frame.Unsigned kind) (frames_of fresh.old) (frames_of fresh.new) result }
 {
     if is_sign(kind) {
-        Ok(Answer::Refused)
+        Answer::Refused
     } else {
-        begins(stack, depth, Context::Operand, kind)
+        begins(fresh, depth, Context::Operand, kind)
     }
 }
 
 /// Behind a parenthesis that may begin a cast.
-pub fn opened(
-    stack: &mut Stack,
-    depth: u64,
-    context: Context,
-    kind: TokenKind,
-) -> Result<Answer, AllocError>
-    requires { depth ≤ 2 ^ 32 }
-    ensures { IfOk result (Does depth (machine.opened context kind) (frames_of stack.old) (frames_of stack.new)) }
+pub fn opened(fresh: &mut Fresh, depth: u64, context: Context, kind: TokenKind) -> Answer
+    requires fits { depth ≤ 2 ^ 32 }
+    requires room { HasRoom 8 fresh.now }
+    ensures { Does depth (machine.opened context kind) (frames_of fresh.old) (frames_of fresh.new) result }
 {
     match kind {
-        TokenKind::Identifier => takes(stack, depth, 1, &[(0, Frame::OpenedName(context))]),
+        TokenKind::Identifier => takes(fresh, depth, 1, &[(0, Frame::OpenedName(context))]),
         _ if is_primitive(kind) => takes(
-            stack,
+            fresh,
             depth,
             1,
             &[(
@@ -366,7 +346,7 @@ pub fn opened(
             )],
         ),
         _ => begins_inside(
-            stack,
+            fresh,
             depth,
             1,
             &[
@@ -386,20 +366,16 @@ pub fn opened(
 }
 
 /// Behind that and a name.
-pub fn opened_name(
-    stack: &mut Stack,
-    depth: u64,
-    context: Context,
-    kind: TokenKind,
-) -> Result<Answer, AllocError>
-    requires { depth ≤ 2 ^ 32 }
-    ensures { IfOk result (Does depth (machine.opened_name context kind) (frames_of stack.old) (frames_of stack.new)) }
+pub fn opened_name(fresh: &mut Fresh, depth: u64, context: Context, kind: TokenKind) -> Answer
+    requires fits { depth ≤ 2 ^ 32 }
+    requires room { HasRoom 8 fresh.now }
+    ensures { Does depth (machine.opened_name context kind) (frames_of fresh.old) (frames_of fresh.new) result }
 {
     match kind {
-        TokenKind::RightParen => takes(stack, depth, 1, &[(0, Frame::Enclosed(context))]),
-        TokenKind::LeftBracket => takes(stack, depth, 1, &[(0, Frame::OpenedPair(context))]),
+        TokenKind::RightParen => takes(fresh, depth, 1, &[(0, Frame::Enclosed(context))]),
+        TokenKind::LeftBracket => takes(fresh, depth, 1, &[(0, Frame::OpenedPair(context))]),
         _ => path_inside(
-            stack,
+            fresh,
             depth,
             1,
             &[
@@ -420,18 +396,14 @@ pub fn opened_name(
 }
 
 /// Behind these and a bracket.
-pub fn opened_pair(
-    stack: &mut Stack,
-    depth: u64,
-    context: Context,
-    kind: TokenKind,
-) -> Result<Answer, AllocError>
-    requires { depth ≤ 2 ^ 32 }
-    ensures { IfOk result (Does depth (machine.opened_pair context kind) (frames_of stack.old) (frames_of stack.new)) }
+pub fn opened_pair(fresh: &mut Fresh, depth: u64, context: Context, kind: TokenKind) -> Answer
+    requires fits { depth ≤ 2 ^ 32 }
+    requires room { HasRoom 8 fresh.now }
+    ensures { Does depth (machine.opened_pair context kind) (frames_of fresh.old) (frames_of fresh.new) result }
 {
     match kind {
         TokenKind::RightBracket => takes(
-            stack,
+            fresh,
             depth,
             1,
             &[(
@@ -443,7 +415,7 @@ pub fn opened_pair(
             )],
         ),
         _ => begins_inside(
-            stack,
+            fresh,
             depth,
             2,
             &[
@@ -472,18 +444,19 @@ pub fn opened_pair(
 
 /// Behind the type of a cast.
 pub fn cast_type(
-    stack: &mut Stack,
+    fresh: &mut Fresh,
     depth: u64,
     primitive: bool,
     context: Context,
     kind: TokenKind,
-) -> Result<Answer, AllocError>
-    requires { depth ≤ 2 ^ 32 }
-    ensures { IfOk result (Does depth (machine.cast_type primitive context kind) (frames_of stack.old) (frames_of stack.new)) }
+) -> Answer
+    requires fits { depth ≤ 2 ^ 32 }
+    requires room { HasRoom 8 fresh.now }
+    ensures { Does depth (machine.cast_type primitive context kind) (frames_of fresh.old) (frames_of fresh.new) result }
 {
     match kind {
         TokenKind::LeftBracket => takes(
-            stack,
+            fresh,
             depth,
             1,
             &[
@@ -498,261 +471,40 @@ pub fn cast_type(
             ],
         ),
         TokenKind::RightParen if primitive => {
-            stack.put_all(depth, rest_of(context))?;
-            takes(stack, depth, 1, &[(1, Frame::Operand)])
+            put_all(fresh, depth, rest_of(context));
+            takes(fresh, depth, 1, &[(1, Frame::Operand)])
         }
         TokenKind::RightParen if !primitive => {
-            stack.put_all(depth, rest_of(context))?;
-            takes(stack, depth, 1, &[(1, Frame::Unsigned)])
+            put_all(fresh, depth, rest_of(context));
+            takes(fresh, depth, 1, &[(1, Frame::Unsigned)])
         }
-        _ => Ok(Answer::Refused),
+        _ => Answer::Refused,
     }
 }
 
 /// Behind a name in parentheses.
-pub fn enclosed(
-    stack: &mut Stack,
-    depth: u64,
-    context: Context,
-    kind: TokenKind,
-) -> Result<Answer, AllocError>
-    requires { depth ≤ 2 ^ 32 }
-    ensures { IfOk result (Does depth (machine.enclosed context kind) (frames_of stack.old) (frames_of stack.new)) }
+pub fn enclosed(fresh: &mut Fresh, depth: u64, context: Context, kind: TokenKind) -> Answer
+    requires fits { depth ≤ 2 ^ 32 }
+    requires room { HasRoom 8 fresh.now }
+    ensures { Does depth (machine.enclosed context kind) (frames_of fresh.old) (frames_of fresh.new) result }
 {
     if begins_unsigned(kind) {
-        begins_inside(stack, depth, 1, rest_of(context), Context::Operand, kind)
+        begins_inside(fresh, depth, 1, rest_of(context), Context::Operand, kind)
     } else {
-        behind_path(stack, depth, context, Ending::Other, kind)
-    }
-}
-
-/// Behind `new` and a name.
-pub fn new_named(
-    stack: &mut Stack,
-    depth: u64,
-    context: Context,
-    kind: TokenKind,
-) -> Result<Answer, AllocError>
-    requires { depth ≤ 2 ^ 32 }
-    ensures { IfOk result (Does depth (machine.new_named context kind) (frames_of stack.old) (frames_of stack.new)) }
-{
-    match kind {
-        TokenKind::LeftParen => takes(
-            stack,
-            depth,
-            1,
-            &[
-                (1, Frame::Arguments),
-                (
-                    0,
-                    Frame::Path {
-                        context,
-                        ending: Ending::Call,
-                    },
-                ),
-            ],
-        ),
-        TokenKind::LeftBracket => goes(stack, depth, &[Frame::NewOpened(context)]),
-        _ => Ok(Answer::Refused),
-    }
-}
-
-/// Behind `new` and the name of a primitive type.
-pub fn new_primitive(
-    stack: &mut Stack,
-    depth: u64,
-    context: Context,
-    kind: TokenKind,
-) -> Result<Answer, AllocError>
-    requires { depth ≤ 2 ^ 32 }
-    ensures { IfOk result (Does depth (machine.new_primitive context kind) (frames_of stack.old) (frames_of stack.new)) }
-{
-    match kind {
-        TokenKind::LeftBracket => goes(stack, depth, &[Frame::NewOpened(context)]),
-        _ => Ok(Answer::Refused),
-    }
-}
-
-/// Behind `new`.
-pub fn new_begins(
-    stack: &mut Stack,
-    depth: u64,
-    context: Context,
-    kind: TokenKind,
-) -> Result<Answer, AllocError>
-    requires { depth ≤ 2 ^ 32 }
-    ensures { IfOk result (Does depth (machine.new_begins context kind) (frames_of stack.old) (frames_of stack.new)) }
-{
-    match kind {
-        TokenKind::Identifier => goes(stack, depth, &[Frame::NewNamed(context)]),
-        _ if is_primitive(kind) => goes(stack, depth, &[Frame::NewPrimitive(context)]),
-        _ => Ok(Answer::Refused),
-    }
-}
-
-/// Behind the first bracket of a new array.
-pub fn new_opened(
-    stack: &mut Stack,
-    depth: u64,
-    context: Context,
-    kind: TokenKind,
-) -> Result<Answer, AllocError>
-    requires { depth ≤ 2 ^ 32 }
-    ensures { IfOk result (Does depth (machine.new_opened context kind) (frames_of stack.old) (frames_of stack.new)) }
-{
-    match kind {
-        TokenKind::RightBracket => goes(stack, depth, &[Frame::NewFilled(context)]),
-        _ => begins_inside(
-            stack,
-            depth,
-            1,
-            &[
-                (1, Frame::Expect(TokenKind::RightBracket)),
-                (0, Frame::NewSized(context)),
-            ],
-            Context::Expression,
-            kind,
-        ),
-    }
-}
-
-/// Behind empty brackets of a new array whose values follow.
-pub fn new_filled(
-    stack: &mut Stack,
-    depth: u64,
-    context: Context,
-    kind: TokenKind,
-) -> Result<Answer, AllocError>
-    requires { depth ≤ 2 ^ 32 }
-    ensures { IfOk result (Does depth (machine.new_filled context kind) (frames_of stack.old) (frames_of stack.new)) }
-{
-    match kind {
-        TokenKind::LeftBracket => goes(
-            stack,
-            depth,
-            &[
-                Frame::Expect(TokenKind::RightBracket),
-                Frame::NewFilled(context),
-            ],
-        ),
-        TokenKind::LeftBrace => takes(
-            stack,
-            depth,
-            1,
-            &[
-                (1, Frame::Values),
-                (
-                    0,
-                    Frame::Path {
-                        context,
-                        ending: Ending::Other,
-                    },
-                ),
-            ],
-        ),
-        _ => Ok(Answer::Refused),
-    }
-}
-
-/// Behind brackets with a size in them.
-pub fn new_sized(
-    stack: &mut Stack,
-    depth: u64,
-    context: Context,
-    kind: TokenKind,
-) -> Result<Answer, AllocError>
-    requires { depth ≤ 2 ^ 32 }
-    ensures { IfOk result (Does depth (machine.new_sized context kind) (frames_of stack.old) (frames_of stack.new)) }
-{
-    match kind {
-        TokenKind::LeftBracket => goes(stack, depth, &[Frame::NewSizedOpened(context)]),
-        _ => behind_path(stack, depth, context, Ending::Other, kind),
-    }
-}
-
-/// Behind these and one more bracket.
-pub fn new_sized_opened(
-    stack: &mut Stack,
-    depth: u64,
-    context: Context,
-    kind: TokenKind,
-) -> Result<Answer, AllocError>
-    requires { depth ≤ 2 ^ 32 }
-    ensures { IfOk result (Does depth (machine.new_sized_opened context kind) (frames_of stack.old) (frames_of stack.new)) }
-{
-    match kind {
-        TokenKind::RightBracket => goes(stack, depth, &[Frame::NewUnsized(context)]),
-        _ => begins_inside(
-            stack,
-            depth,
-            1,
-            &[
-                (1, Frame::Expect(TokenKind::RightBracket)),
-                (0, Frame::NewSized(context)),
-            ],
-            Context::Expression,
-            kind,
-        ),
-    }
-}
-
-/// Behind sizes and empty brackets.
-pub fn new_unsized(
-    stack: &mut Stack,
-    depth: u64,
-    context: Context,
-    kind: TokenKind,
-) -> Result<Answer, AllocError>
-    requires { depth ≤ 2 ^ 32 }
-    ensures { IfOk result (Does depth (machine.new_unsized context kind) (frames_of stack.old) (frames_of stack.new)) }
-{
-    match kind {
-        TokenKind::LeftBracket => goes(stack, depth, &[Frame::NewUnsizedOpened(context)]),
-        _ => behind_path(stack, depth, context, Ending::Other, kind),
-    }
-}
-
-/// Behind these and one more bracket.
-pub fn new_unsized_opened(
-    stack: &mut Stack,
-    depth: u64,
-    context: Context,
-    kind: TokenKind,
-) -> Result<Answer, AllocError>
-    requires { depth ≤ 2 ^ 32 }
-    ensures { IfOk result (Does depth (machine.new_unsized_opened context kind) (frames_of stack.old) (frames_of stack.new)) }
-{
-    match kind {
-        TokenKind::RightBracket => goes(stack, depth, &[Frame::NewUnsized(context)]),
-        _ => begins_inside(
-            stack,
-            depth,
-            1,
-            &[
-                (1, Frame::Expect(TokenKind::RightBracket)),
-                (
-                    0,
-                    Frame::Path {
-                        context,
-                        ending: Ending::Place,
-                    },
-                ),
-            ],
-            Context::Expression,
-            kind,
-        ),
+        behind_path(fresh, depth, context, Ending::Other, kind)
     }
 }
 
 /// Behind the parenthesis of arguments.
-pub fn arguments(stack: &mut Stack, depth: u64, kind: TokenKind) -> Result<Answer, AllocError>
-    requires { depth ≤ 2 ^ 32 }
-    ensures { IfOk result (Does depth (machine.arguments kind) (frames_of stack.old) (frames_of stack.new)) }
+pub fn arguments(fresh: &mut Fresh, depth: u64, kind: TokenKind) -> Answer
+    requires fits { depth ≤ 2 ^ 32 }
+    requires room { HasRoom 8 fresh.now }
+    ensures { Does depth (machine.arguments kind) (frames_of fresh.old) (frames_of fresh.new) result }
 {
     match kind {
-        TokenKind::RightParen => goes(stack, depth, &[]),
+        TokenKind::RightParen => goes(fresh, depth, &[]),
         _ => begins_inside(
-            stack,
+            fresh,
             depth,
             0,
             &[(0, Frame::MoreArguments)],
@@ -763,86 +515,88 @@ pub fn arguments(stack: &mut Stack, depth: u64, kind: TokenKind) -> Result<Answe
 }
 
 /// Behind an argument.
-pub fn more_arguments(stack: &mut Stack, depth: u64, kind: TokenKind) -> Result<Answer, AllocError>
-    requires { depth ≤ 2 ^ 32 }
-    ensures { IfOk result (Does depth (machine.more_arguments kind) (frames_of stack.old) (frames_of stack.new)) }
+pub fn more_arguments(fresh: &mut Fresh, depth: u64, kind: TokenKind) -> Answer
+    requires fits { depth ≤ 2 ^ 32 }
+    requires room { HasRoom 8 fresh.now }
+    ensures { Does depth (machine.more_arguments kind) (frames_of fresh.old) (frames_of fresh.new) result }
 {
     match kind {
-        TokenKind::RightParen => goes(stack, depth, &[]),
-        TokenKind::Comma => goes(stack, depth, &[Frame::Expression, Frame::MoreArguments]),
-        _ => Ok(Answer::Refused),
+        TokenKind::RightParen => goes(fresh, depth, &[]),
+        TokenKind::Comma => goes(fresh, depth, &[Frame::Expression, Frame::MoreArguments]),
+        _ => Answer::Refused,
     }
 }
 
-pub fn initial(stack: &mut Stack, depth: u64, kind: TokenKind) -> Result<Answer, AllocError>
-    requires { depth ≤ 2 ^ 32 }
-    ensures { IfOk result (Does depth (machine.initial kind) (frames_of stack.old) (frames_of stack.new)) }
+pub fn initial(fresh: &mut Fresh, depth: u64, kind: TokenKind) -> Answer
+    requires fits { depth ≤ 2 ^ 32 }
+    requires room { HasRoom 4 fresh.now }
+    ensures { Does depth (machine.initial kind) (frames_of fresh.old) (frames_of fresh.new) result }
 {
     match kind {
-        TokenKind::LeftBrace => takes(stack, depth, 1, &[(1, Frame::Values)]),
-        _ => begins(stack, depth, Context::Expression, kind),
+        TokenKind::LeftBrace => takes(fresh, depth, 1, &[(1, Frame::Values)]),
+        _ => begins(fresh, depth, Context::Expression, kind),
     }
 }
 
 /// A value in front of these.
-fn initial_inside(
-    stack: &mut Stack,
-    depth: u64,
-    more: &[(u32, Frame)],
-    kind: TokenKind,
-) -> Result<Answer, AllocError>
-    requires { depth ≤ 2 ^ 32 }
-    ensures { IfOk result (Does depth (machine.inside 0 more.now (machine.initial kind)) (frames_of stack.old) (frames_of stack.new)) }
+fn initial_inside(fresh: &mut Fresh, depth: u64, more: &[(u32, Frame)], kind: TokenKind) -> Answer
+    requires fits { depth ≤ 2 ^ 32 }
+    requires room { HasRoom (length more.now + 4) fresh.now }
+    ensures { Does depth (machine.inside 0 more.now (machine.initial kind)) (frames_of fresh.old) (frames_of fresh.new) result }
 {
-    stack.put_all(depth, more)?;
-    let answer = initial(stack, depth, kind)?;
-    Ok(answer.closed())
+    put_all(fresh, depth, more);
+    let answer = initial(fresh, depth, kind);
+    answer.closed()
 }
 
 /// Behind the brace of an array initializer, or a comma in it.
-pub fn values(stack: &mut Stack, depth: u64, kind: TokenKind) -> Result<Answer, AllocError>
-    requires { depth ≤ 2 ^ 32 }
-    ensures { IfOk result (Does depth (machine.values kind) (frames_of stack.old) (frames_of stack.new)) }
+pub fn values(fresh: &mut Fresh, depth: u64, kind: TokenKind) -> Answer
+    requires fits { depth ≤ 2 ^ 32 }
+    requires room { HasRoom 8 fresh.now }
+    ensures { Does depth (machine.values kind) (frames_of fresh.old) (frames_of fresh.new) result }
 {
     match kind {
-        TokenKind::RightBrace => goes(stack, depth, &[]),
-        _ => initial_inside(stack, depth, &[(0, Frame::MoreValues)], kind),
+        TokenKind::RightBrace => goes(fresh, depth, &[]),
+        _ => initial_inside(fresh, depth, &[(0, Frame::MoreValues)], kind),
     }
 }
 
 /// Behind a value in it.
-pub fn more_values(stack: &mut Stack, depth: u64, kind: TokenKind) -> Result<Answer, AllocError>
-    requires { depth ≤ 2 ^ 32 }
-    ensures { IfOk result (Does depth (machine.more_values kind) (frames_of stack.old) (frames_of stack.new)) }
+pub fn more_values(fresh: &mut Fresh, depth: u64, kind: TokenKind) -> Answer
+    requires fits { depth ≤ 2 ^ 32 }
+    requires room { HasRoom 8 fresh.now }
+    ensures { Does depth (machine.more_values kind) (frames_of fresh.old) (frames_of fresh.new) result }
 {
     match kind {
-        TokenKind::RightBrace => goes(stack, depth, &[]),
-        TokenKind::Comma => goes(stack, depth, &[Frame::Values]),
-        _ => Ok(Answer::Refused),
+        TokenKind::RightBrace => goes(fresh, depth, &[]),
+        TokenKind::Comma => goes(fresh, depth, &[Frame::Values]),
+        _ => Answer::Refused,
     }
 }
 
-pub fn brackets(stack: &mut Stack, depth: u64, kind: TokenKind) -> Result<Answer, AllocError>
-    requires { depth ≤ 2 ^ 32 }
-    ensures { IfOk result (Does depth (machine.brackets kind) (frames_of stack.old) (frames_of stack.new)) }
+pub fn brackets(fresh: &mut Fresh, depth: u64, kind: TokenKind) -> Answer
+    requires fits { depth ≤ 2 ^ 32 }
+    requires room { HasRoom 8 fresh.now }
+    ensures { Does depth (machine.brackets kind) (frames_of fresh.old) (frames_of fresh.new) result }
 {
     match kind {
         TokenKind::LeftBracket => goes(
-            stack,
+            fresh,
             depth,
             &[Frame::Expect(TokenKind::RightBracket), Frame::Brackets],
         ),
-        _ => Ok(Answer::Passed),
+        _ => Answer::Passed,
     }
 }
 
-pub fn type_use(stack: &mut Stack, depth: u64, kind: TokenKind) -> Result<Answer, AllocError>
-    requires { depth ≤ 2 ^ 32 }
-    ensures { IfOk result (Does depth (machine.type_use kind) (frames_of stack.old) (frames_of stack.new)) }
+pub fn type_use(fresh: &mut Fresh, depth: u64, kind: TokenKind) -> Answer
+    requires fits { depth ≤ 2 ^ 32 }
+    requires room { HasRoom 8 fresh.now }
+    ensures { Does depth (machine.type_use kind) (frames_of fresh.old) (frames_of fresh.new) result }
 {
     match kind {
-        TokenKind::Identifier => goes(stack, depth, &[Frame::Brackets]),
-        _ if is_primitive(kind) => goes(stack, depth, &[Frame::Brackets]),
-        _ => Ok(Answer::Refused),
+        TokenKind::Identifier => goes(fresh, depth, &[Frame::Brackets]),
+        _ if is_primitive(kind) => goes(fresh, depth, &[Frame::Brackets]),
+        _ => Answer::Refused,
     }
 }

@@ -1,13 +1,12 @@
 //! How much of a list of tokens the recognizer takes.
 
-ghost use Rattle.std.specs.Prelude.{◌≡◌, ◌≤◌, IfOk, take, drop, length};
+ghost use Rattle.std.specs.Prelude.{◌≡◌, take, drop, length};
 ghost use Rattle.jsh_recognizer.specs.Machine as machine;
 ghost use Rattle.jsh_recognizer.specs.Recognizing.{first, kinds, Ends};
 ghost use Rattle.jsh_recognizer.specs.Stops.{part_of, IsStop};
 
 use crate::recognizer::{Advance, Recognizer, Start};
 use jsh_tree::{Token, TokenKind};
-use std::alloc::{AllocError, Global};
 
 /// Why the reading of tokens ended, with a kind of token that may come where more has to.
 #[derive(Clone, Copy, Debug, PartialEq, Eq)]
@@ -31,26 +30,21 @@ pub struct Scanned {
 }
 
 /// Takes tokens as long as they may come.
-pub fn scan(
-    alloc: Global,
-    start: Start,
-    limit: u32,
-    tokens: &[Token],
-) -> Result<Scanned, AllocError>
-    ensures stop { IfOk result (IsStop (part_of start) limit tokens.now) }
-    ensures runs { IfOk result (λ s. (last : machine.Frames) × machine.Runs limit (first start) (kinds (take s.read tokens.now)) last × Ends limit last (drop s.read tokens.now) s.end) }
+pub fn scan(start: Start, tokens: &[Token]) -> Scanned
+    ensures stop { IsStop (part_of start) 256 tokens.now result }
+    ensures runs { (last : machine.Frames) × machine.Runs 256 (first start) (kinds (take result.read tokens.now)) last × Ends 256 last (drop result.read tokens.now) result.end }
 {
-    let mut recognizer = Recognizer::new(alloc, start, limit)?;
+    let mut recognizer = Recognizer::new(start);
     for (read, token) in tokens.iter().enumerate() {
-        match recognizer.advance(token.kind)? {
+        match recognizer.advance(token.kind) {
             Advance::Taken => {}
-            Advance::TooDeep => return Ok(Scanned {
+            Advance::TooDeep => return Scanned {
                 read,
                 end: End::TooDeep,
-            }),
+            },
             Advance::Refused => {
                 let end = End::Refused(recognizer.wanted());
-                return Ok(Scanned { read, end });
+                return Scanned { read, end };
             }
         }
     }
@@ -59,8 +53,8 @@ pub fn scan(
     } else {
         End::Open(recognizer.wanted())
     };
-    Ok(Scanned {
+    Scanned {
         read: tokens.len(),
         end,
-    })
+    }
 }

@@ -1,26 +1,26 @@
 //! The moves of frames of statements.
 
-ghost use Rattle.std.specs.Prelude.{◌≤◌, ◌^◌, IfOk};
+ghost use Rattle.std.specs.Prelude.{◌+◌, ◌≤◌, ◌^◌, length};
 ghost use Rattle.jsh_recognizer.specs.Machine as machine;
-ghost use Rattle.jsh_recognizer.specs.Stacks.{frames_of, Does};
+ghost use Rattle.jsh_recognizer.specs.Stacks.{frames_of, HasRoom, Does};
 
 use crate::answer::{Answer, goes, takes};
 use crate::classes::{is_case_value, is_primitive};
 use crate::frame::{Context, Ending, Frame};
+use crate::fresh::{Fresh, put_all};
 use crate::operands::{begins_inside, path_inside};
-use crate::stack::Stack;
 use jsh_tree::TokenKind;
-use std::alloc::AllocError;
 
-pub fn statement(stack: &mut Stack, depth: u64, kind: TokenKind) -> Result<Answer, AllocError>
-    requires { depth ≤ 2 ^ 32 }
-    ensures { IfOk result (Does depth (machine.statement kind) (frames_of stack.old) (frames_of stack.new)) }
+pub fn statement(fresh: &mut Fresh, depth: u64, kind: TokenKind) -> Answer
+    requires fits { depth ≤ 2 ^ 32 }
+    requires room { HasRoom 5 fresh.now }
+    ensures { Does depth (machine.statement kind) (frames_of fresh.old) (frames_of fresh.new) result }
 {
     match kind {
-        TokenKind::LeftBrace => takes(stack, depth, 1, &[(1, Frame::Statements)]),
-        TokenKind::Semicolon => goes(stack, depth, &[]),
+        TokenKind::LeftBrace => takes(fresh, depth, 1, &[(1, Frame::Statements)]),
+        TokenKind::Semicolon => goes(fresh, depth, &[]),
         TokenKind::If => takes(
-            stack,
+            fresh,
             depth,
             0,
             &[
@@ -30,13 +30,13 @@ pub fn statement(stack: &mut Stack, depth: u64, kind: TokenKind) -> Result<Answe
             ],
         ),
         TokenKind::While => takes(
-            stack,
+            fresh,
             depth,
             0,
             &[(1, Frame::Condition), (1, Frame::Statement)],
         ),
         TokenKind::Do => takes(
-            stack,
+            fresh,
             depth,
             0,
             &[
@@ -46,24 +46,24 @@ pub fn statement(stack: &mut Stack, depth: u64, kind: TokenKind) -> Result<Answe
                 (0, Frame::Expect(TokenKind::Semicolon)),
             ],
         ),
-        TokenKind::For => takes(stack, depth, 0, &[(1, Frame::For), (1, Frame::Statement)]),
+        TokenKind::For => takes(fresh, depth, 0, &[(1, Frame::For), (1, Frame::Statement)]),
         TokenKind::Switch => takes(
-            stack,
+            fresh,
             depth,
             0,
             &[(1, Frame::Condition), (1, Frame::Switch)],
         ),
-        TokenKind::Break => goes(stack, depth, &[Frame::Expect(TokenKind::Semicolon)]),
-        TokenKind::Continue => goes(stack, depth, &[Frame::Expect(TokenKind::Semicolon)]),
-        TokenKind::Return => goes(stack, depth, &[Frame::Returned]),
+        TokenKind::Break => goes(fresh, depth, &[Frame::Expect(TokenKind::Semicolon)]),
+        TokenKind::Continue => goes(fresh, depth, &[Frame::Expect(TokenKind::Semicolon)]),
+        TokenKind::Return => goes(fresh, depth, &[Frame::Returned]),
         TokenKind::Throw => goes(
-            stack,
+            fresh,
             depth,
             &[Frame::Expression, Frame::Expect(TokenKind::Semicolon)],
         ),
-        TokenKind::Try => takes(stack, depth, 0, &[(1, Frame::Block), (0, Frame::Catches)]),
+        TokenKind::Try => takes(fresh, depth, 0, &[(1, Frame::Block), (0, Frame::Catches)]),
         _ => begins_inside(
-            stack,
+            fresh,
             depth,
             0,
             &[(0, Frame::Expect(TokenKind::Semicolon))],
@@ -73,47 +73,51 @@ pub fn statement(stack: &mut Stack, depth: u64, kind: TokenKind) -> Result<Answe
     }
 }
 
-pub fn condition(stack: &mut Stack, depth: u64, kind: TokenKind) -> Result<Answer, AllocError>
-    requires { depth ≤ 2 ^ 32 }
-    ensures { IfOk result (Does depth (machine.condition kind) (frames_of stack.old) (frames_of stack.new)) }
+pub fn condition(fresh: &mut Fresh, depth: u64, kind: TokenKind) -> Answer
+    requires fits { depth ≤ 2 ^ 32 }
+    requires room { HasRoom 8 fresh.now }
+    ensures { Does depth (machine.condition kind) (frames_of fresh.old) (frames_of fresh.new) result }
 {
     match kind {
         TokenKind::LeftParen => goes(
-            stack,
+            fresh,
             depth,
             &[Frame::Expression, Frame::Expect(TokenKind::RightParen)],
         ),
-        _ => Ok(Answer::Refused),
+        _ => Answer::Refused,
     }
 }
 
-pub fn else_branch(stack: &mut Stack, depth: u64, kind: TokenKind) -> Result<Answer, AllocError>
-    requires { depth ≤ 2 ^ 32 }
-    ensures { IfOk result (Does depth (machine.else_branch kind) (frames_of stack.old) (frames_of stack.new)) }
+pub fn else_branch(fresh: &mut Fresh, depth: u64, kind: TokenKind) -> Answer
+    requires fits { depth ≤ 2 ^ 32 }
+    requires room { HasRoom 8 fresh.now }
+    ensures { Does depth (machine.else_branch kind) (frames_of fresh.old) (frames_of fresh.new) result }
 {
     match kind {
-        TokenKind::Else => takes(stack, depth, 0, &[(1, Frame::Statement)]),
-        _ => Ok(Answer::Passed),
+        TokenKind::Else => takes(fresh, depth, 0, &[(1, Frame::Statement)]),
+        _ => Answer::Passed,
     }
 }
 
-pub fn block(stack: &mut Stack, depth: u64, kind: TokenKind) -> Result<Answer, AllocError>
-    requires { depth ≤ 2 ^ 32 }
-    ensures { IfOk result (Does depth (machine.block kind) (frames_of stack.old) (frames_of stack.new)) }
+pub fn block(fresh: &mut Fresh, depth: u64, kind: TokenKind) -> Answer
+    requires fits { depth ≤ 2 ^ 32 }
+    requires room { HasRoom 8 fresh.now }
+    ensures { Does depth (machine.block kind) (frames_of fresh.old) (frames_of fresh.new) result }
 {
     match kind {
-        TokenKind::LeftBrace => goes(stack, depth, &[Frame::Statements]),
-        _ => Ok(Answer::Refused),
+        TokenKind::LeftBrace => goes(fresh, depth, &[Frame::Statements]),
+        _ => Answer::Refused,
     }
 }
 
-pub fn variable(stack: &mut Stack, depth: u64, kind: TokenKind) -> Result<Answer, AllocError>
-    requires { depth ≤ 2 ^ 32 }
-    ensures { IfOk result (Does depth (machine.variable kind) (frames_of stack.old) (frames_of stack.new)) }
+pub fn variable(fresh: &mut Fresh, depth: u64, kind: TokenKind) -> Answer
+    requires fits { depth ≤ 2 ^ 32 }
+    requires room { HasRoom 8 fresh.now }
+    ensures { Does depth (machine.variable kind) (frames_of fresh.old) (frames_of fresh.new) result }
 {
     match kind {
         TokenKind::Var => goes(
-            stack,
+            fresh,
             depth,
             &[
                 Frame::Expect(TokenKind::Identifier),
@@ -122,7 +126,7 @@ pub fn variable(stack: &mut Stack, depth: u64, kind: TokenKind) -> Result<Answer
             ],
         ),
         TokenKind::Identifier => goes(
-            stack,
+            fresh,
             depth,
             &[
                 Frame::Brackets,
@@ -131,7 +135,7 @@ pub fn variable(stack: &mut Stack, depth: u64, kind: TokenKind) -> Result<Answer
             ],
         ),
         _ if is_primitive(kind) => goes(
-            stack,
+            fresh,
             depth,
             &[
                 Frame::Brackets,
@@ -139,33 +143,35 @@ pub fn variable(stack: &mut Stack, depth: u64, kind: TokenKind) -> Result<Answer
                 Frame::Initialized,
             ],
         ),
-        _ => Ok(Answer::Refused),
+        _ => Answer::Refused,
     }
 }
 
-pub fn initialized(stack: &mut Stack, depth: u64, kind: TokenKind) -> Result<Answer, AllocError>
-    requires { depth ≤ 2 ^ 32 }
-    ensures { IfOk result (Does depth (machine.initialized kind) (frames_of stack.old) (frames_of stack.new)) }
+pub fn initialized(fresh: &mut Fresh, depth: u64, kind: TokenKind) -> Answer
+    requires fits { depth ≤ 2 ^ 32 }
+    requires room { HasRoom 8 fresh.now }
+    ensures { Does depth (machine.initialized kind) (frames_of fresh.old) (frames_of fresh.new) result }
 {
     match kind {
-        TokenKind::Assign => goes(stack, depth, &[Frame::Initial]),
-        _ => Ok(Answer::Passed),
+        TokenKind::Assign => goes(fresh, depth, &[Frame::Initial]),
+        _ => Answer::Passed,
     }
 }
 
-pub fn block_statement(stack: &mut Stack, depth: u64, kind: TokenKind) -> Result<Answer, AllocError>
-    requires { depth ≤ 2 ^ 32 }
-    ensures { IfOk result (Does depth (machine.block_statement kind) (frames_of stack.old) (frames_of stack.new)) }
+pub fn block_statement(fresh: &mut Fresh, depth: u64, kind: TokenKind) -> Answer
+    requires fits { depth ≤ 2 ^ 32 }
+    requires room { HasRoom 5 fresh.now }
+    ensures { Does depth (machine.block_statement kind) (frames_of fresh.old) (frames_of fresh.new) result }
 {
     match kind {
         TokenKind::Final => goes(
-            stack,
+            fresh,
             depth,
             &[Frame::Variable, Frame::Expect(TokenKind::Semicolon)],
         ),
-        TokenKind::Identifier => goes(stack, depth, &[Frame::Named]),
+        TokenKind::Identifier => goes(fresh, depth, &[Frame::Named]),
         TokenKind::Var => goes(
-            stack,
+            fresh,
             depth,
             &[
                 Frame::Expect(TokenKind::Identifier),
@@ -175,7 +181,7 @@ pub fn block_statement(stack: &mut Stack, depth: u64, kind: TokenKind) -> Result
             ],
         ),
         _ if is_primitive(kind) => goes(
-            stack,
+            fresh,
             depth,
             &[
                 Frame::Brackets,
@@ -184,49 +190,52 @@ pub fn block_statement(stack: &mut Stack, depth: u64, kind: TokenKind) -> Result
                 Frame::Expect(TokenKind::Semicolon),
             ],
         ),
-        _ => statement(stack, depth, kind),
+        _ => statement(fresh, depth, kind),
     }
 }
 
 /// A statement of a block in front of these.
 fn block_statement_inside(
-    stack: &mut Stack,
+    fresh: &mut Fresh,
     depth: u64,
     more: &[(u32, Frame)],
     kind: TokenKind,
-) -> Result<Answer, AllocError>
-    requires { depth ≤ 2 ^ 32 }
-    ensures { IfOk result (Does depth (machine.inside 0 more.now (machine.block_statement kind)) (frames_of stack.old) (frames_of stack.new)) }
+) -> Answer
+    requires fits { depth ≤ 2 ^ 32 }
+    requires room { HasRoom (length more.now + 5) fresh.now }
+    ensures { Does depth (machine.inside 0 more.now (machine.block_statement kind)) (frames_of fresh.old) (frames_of fresh.new) result }
 {
-    stack.put_all(depth, more)?;
-    let answer = block_statement(stack, depth, kind)?;
-    Ok(answer.closed())
+    put_all(fresh, depth, more);
+    let answer = block_statement(fresh, depth, kind);
+    answer.closed()
 }
 
-pub fn statements(stack: &mut Stack, depth: u64, kind: TokenKind) -> Result<Answer, AllocError>
-    requires { depth ≤ 2 ^ 32 }
-    ensures { IfOk result (Does depth (machine.statements kind) (frames_of stack.old) (frames_of stack.new)) }
+pub fn statements(fresh: &mut Fresh, depth: u64, kind: TokenKind) -> Answer
+    requires fits { depth ≤ 2 ^ 32 }
+    requires room { HasRoom 8 fresh.now }
+    ensures { Does depth (machine.statements kind) (frames_of fresh.old) (frames_of fresh.new) result }
 {
     match kind {
-        TokenKind::RightBrace => goes(stack, depth, &[]),
-        _ => block_statement_inside(stack, depth, &[(0, Frame::Statements)], kind),
+        TokenKind::RightBrace => goes(fresh, depth, &[]),
+        _ => block_statement_inside(fresh, depth, &[(0, Frame::Statements)], kind),
     }
 }
 
 /// Behind a name that begins a statement of a block.
-pub fn named(stack: &mut Stack, depth: u64, kind: TokenKind) -> Result<Answer, AllocError>
-    requires { depth ≤ 2 ^ 32 }
-    ensures { IfOk result (Does depth (machine.named kind) (frames_of stack.old) (frames_of stack.new)) }
+pub fn named(fresh: &mut Fresh, depth: u64, kind: TokenKind) -> Answer
+    requires fits { depth ≤ 2 ^ 32 }
+    requires room { HasRoom 8 fresh.now }
+    ensures { Does depth (machine.named kind) (frames_of fresh.old) (frames_of fresh.new) result }
 {
     match kind {
         TokenKind::Identifier => goes(
-            stack,
+            fresh,
             depth,
             &[Frame::Initialized, Frame::Expect(TokenKind::Semicolon)],
         ),
-        TokenKind::LeftBracket => goes(stack, depth, &[Frame::NamedPair]),
+        TokenKind::LeftBracket => goes(fresh, depth, &[Frame::NamedPair]),
         _ => path_inside(
-            stack,
+            fresh,
             depth,
             0,
             &[(0, Frame::Expect(TokenKind::Semicolon))],
@@ -238,13 +247,14 @@ pub fn named(stack: &mut Stack, depth: u64, kind: TokenKind) -> Result<Answer, A
 }
 
 /// Behind that and a bracket.
-pub fn named_pair(stack: &mut Stack, depth: u64, kind: TokenKind) -> Result<Answer, AllocError>
-    requires { depth ≤ 2 ^ 32 }
-    ensures { IfOk result (Does depth (machine.named_pair kind) (frames_of stack.old) (frames_of stack.new)) }
+pub fn named_pair(fresh: &mut Fresh, depth: u64, kind: TokenKind) -> Answer
+    requires fits { depth ≤ 2 ^ 32 }
+    requires room { HasRoom 8 fresh.now }
+    ensures { Does depth (machine.named_pair kind) (frames_of fresh.old) (frames_of fresh.new) result }
 {
     match kind {
         TokenKind::RightBracket => goes(
-            stack,
+            fresh,
             depth,
             &[
                 Frame::Brackets,
@@ -254,7 +264,7 @@ pub fn named_pair(stack: &mut Stack, depth: u64, kind: TokenKind) -> Result<Answ
             ],
         ),
         _ => begins_inside(
-            stack,
+            fresh,
             depth,
             1,
             &[
@@ -274,14 +284,15 @@ pub fn named_pair(stack: &mut Stack, depth: u64, kind: TokenKind) -> Result<Answ
     }
 }
 
-pub fn returned(stack: &mut Stack, depth: u64, kind: TokenKind) -> Result<Answer, AllocError>
-    requires { depth ≤ 2 ^ 32 }
-    ensures { IfOk result (Does depth (machine.returned kind) (frames_of stack.old) (frames_of stack.new)) }
+pub fn returned(fresh: &mut Fresh, depth: u64, kind: TokenKind) -> Answer
+    requires fits { depth ≤ 2 ^ 32 }
+    requires room { HasRoom 8 fresh.now }
+    ensures { Does depth (machine.returned kind) (frames_of fresh.old) (frames_of fresh.new) result }
 {
     match kind {
-        TokenKind::Semicolon => goes(stack, depth, &[]),
+        TokenKind::Semicolon => goes(fresh, depth, &[]),
         _ => begins_inside(
-            stack,
+            fresh,
             depth,
             0,
             &[(0, Frame::Expect(TokenKind::Semicolon))],
@@ -291,28 +302,30 @@ pub fn returned(stack: &mut Stack, depth: u64, kind: TokenKind) -> Result<Answer
     }
 }
 
-pub fn for_head(stack: &mut Stack, depth: u64, kind: TokenKind) -> Result<Answer, AllocError>
-    requires { depth ≤ 2 ^ 32 }
-    ensures { IfOk result (Does depth (machine.for_head kind) (frames_of stack.old) (frames_of stack.new)) }
+pub fn for_head(fresh: &mut Fresh, depth: u64, kind: TokenKind) -> Answer
+    requires fits { depth ≤ 2 ^ 32 }
+    requires room { HasRoom 8 fresh.now }
+    ensures { Does depth (machine.for_head kind) (frames_of fresh.old) (frames_of fresh.new) result }
 {
     match kind {
-        TokenKind::LeftParen => goes(stack, depth, &[Frame::ForStart]),
-        _ => Ok(Answer::Refused),
+        TokenKind::LeftParen => goes(fresh, depth, &[Frame::ForStart]),
+        _ => Answer::Refused,
     }
 }
 
-pub fn for_variable(stack: &mut Stack, depth: u64, kind: TokenKind) -> Result<Answer, AllocError>
-    requires { depth ≤ 2 ^ 32 }
-    ensures { IfOk result (Does depth (machine.for_variable kind) (frames_of stack.old) (frames_of stack.new)) }
+pub fn for_variable(fresh: &mut Fresh, depth: u64, kind: TokenKind) -> Answer
+    requires fits { depth ≤ 2 ^ 32 }
+    requires room { HasRoom 8 fresh.now }
+    ensures { Does depth (machine.for_variable kind) (frames_of fresh.old) (frames_of fresh.new) result }
 {
     match kind {
         TokenKind::Var => goes(
-            stack,
+            fresh,
             depth,
             &[Frame::Expect(TokenKind::Identifier), Frame::ForInferred],
         ),
         TokenKind::Identifier => goes(
-            stack,
+            fresh,
             depth,
             &[
                 Frame::Brackets,
@@ -321,7 +334,7 @@ pub fn for_variable(stack: &mut Stack, depth: u64, kind: TokenKind) -> Result<An
             ],
         ),
         _ if is_primitive(kind) => goes(
-            stack,
+            fresh,
             depth,
             &[
                 Frame::Brackets,
@@ -329,25 +342,26 @@ pub fn for_variable(stack: &mut Stack, depth: u64, kind: TokenKind) -> Result<An
                 Frame::ForTyped,
             ],
         ),
-        _ => Ok(Answer::Refused),
+        _ => Answer::Refused,
     }
 }
 
-pub fn for_start(stack: &mut Stack, depth: u64, kind: TokenKind) -> Result<Answer, AllocError>
-    requires { depth ≤ 2 ^ 32 }
-    ensures { IfOk result (Does depth (machine.for_start kind) (frames_of stack.old) (frames_of stack.new)) }
+pub fn for_start(fresh: &mut Fresh, depth: u64, kind: TokenKind) -> Answer
+    requires fits { depth ≤ 2 ^ 32 }
+    requires room { HasRoom 8 fresh.now }
+    ensures { Does depth (machine.for_start kind) (frames_of fresh.old) (frames_of fresh.new) result }
 {
     match kind {
-        TokenKind::Semicolon => goes(stack, depth, &[Frame::ForCondition]),
-        TokenKind::Final => goes(stack, depth, &[Frame::ForVariable]),
+        TokenKind::Semicolon => goes(fresh, depth, &[Frame::ForCondition]),
+        TokenKind::Final => goes(fresh, depth, &[Frame::ForVariable]),
         TokenKind::Var => goes(
-            stack,
+            fresh,
             depth,
             &[Frame::Expect(TokenKind::Identifier), Frame::ForInferred],
         ),
-        TokenKind::Identifier => goes(stack, depth, &[Frame::ForNamed]),
+        TokenKind::Identifier => goes(fresh, depth, &[Frame::ForNamed]),
         _ if is_primitive(kind) => goes(
-            stack,
+            fresh,
             depth,
             &[
                 Frame::Brackets,
@@ -356,7 +370,7 @@ pub fn for_start(stack: &mut Stack, depth: u64, kind: TokenKind) -> Result<Answe
             ],
         ),
         _ => begins_inside(
-            stack,
+            fresh,
             depth,
             0,
             &[
@@ -370,25 +384,27 @@ pub fn for_start(stack: &mut Stack, depth: u64, kind: TokenKind) -> Result<Answe
 }
 
 /// The elements of a `for` that goes over an array.
-fn elements(stack: &mut Stack, depth: u64) -> Result<Answer, AllocError>
-    requires { depth ≤ 2 ^ 32 }
-    ensures { IfOk result (Does depth machine.elements (frames_of stack.old) (frames_of stack.new)) }
+fn elements(fresh: &mut Fresh, depth: u64) -> Answer
+    requires fits { depth ≤ 2 ^ 32 }
+    requires room { HasRoom 8 fresh.now }
+    ensures { Does depth machine.elements (frames_of fresh.old) (frames_of fresh.new) result }
 {
     goes(
-        stack,
+        fresh,
         depth,
         &[Frame::Expression, Frame::Expect(TokenKind::RightParen)],
     )
 }
 
-pub fn for_inferred(stack: &mut Stack, depth: u64, kind: TokenKind) -> Result<Answer, AllocError>
-    requires { depth ≤ 2 ^ 32 }
-    ensures { IfOk result (Does depth (machine.for_inferred kind) (frames_of stack.old) (frames_of stack.new)) }
+pub fn for_inferred(fresh: &mut Fresh, depth: u64, kind: TokenKind) -> Answer
+    requires fits { depth ≤ 2 ^ 32 }
+    requires room { HasRoom 8 fresh.now }
+    ensures { Does depth (machine.for_inferred kind) (frames_of fresh.old) (frames_of fresh.new) result }
 {
     match kind {
-        TokenKind::Colon => elements(stack, depth),
+        TokenKind::Colon => elements(fresh, depth),
         TokenKind::Assign => goes(
-            stack,
+            fresh,
             depth,
             &[
                 Frame::Expression,
@@ -396,18 +412,19 @@ pub fn for_inferred(stack: &mut Stack, depth: u64, kind: TokenKind) -> Result<An
                 Frame::ForCondition,
             ],
         ),
-        _ => Ok(Answer::Refused),
+        _ => Answer::Refused,
     }
 }
 
-pub fn for_typed(stack: &mut Stack, depth: u64, kind: TokenKind) -> Result<Answer, AllocError>
-    requires { depth ≤ 2 ^ 32 }
-    ensures { IfOk result (Does depth (machine.for_typed kind) (frames_of stack.old) (frames_of stack.new)) }
+pub fn for_typed(fresh: &mut Fresh, depth: u64, kind: TokenKind) -> Answer
+    requires fits { depth ≤ 2 ^ 32 }
+    requires room { HasRoom 8 fresh.now }
+    ensures { Does depth (machine.for_typed kind) (frames_of fresh.old) (frames_of fresh.new) result }
 {
     match kind {
-        TokenKind::Colon => elements(stack, depth),
+        TokenKind::Colon => elements(fresh, depth),
         TokenKind::Assign => goes(
-            stack,
+            fresh,
             depth,
             &[
                 Frame::Initial,
@@ -415,20 +432,21 @@ pub fn for_typed(stack: &mut Stack, depth: u64, kind: TokenKind) -> Result<Answe
                 Frame::ForCondition,
             ],
         ),
-        TokenKind::Semicolon => goes(stack, depth, &[Frame::ForCondition]),
-        _ => Ok(Answer::Refused),
+        TokenKind::Semicolon => goes(fresh, depth, &[Frame::ForCondition]),
+        _ => Answer::Refused,
     }
 }
 
-pub fn for_named(stack: &mut Stack, depth: u64, kind: TokenKind) -> Result<Answer, AllocError>
-    requires { depth ≤ 2 ^ 32 }
-    ensures { IfOk result (Does depth (machine.for_named kind) (frames_of stack.old) (frames_of stack.new)) }
+pub fn for_named(fresh: &mut Fresh, depth: u64, kind: TokenKind) -> Answer
+    requires fits { depth ≤ 2 ^ 32 }
+    requires room { HasRoom 8 fresh.now }
+    ensures { Does depth (machine.for_named kind) (frames_of fresh.old) (frames_of fresh.new) result }
 {
     match kind {
-        TokenKind::Identifier => goes(stack, depth, &[Frame::ForTyped]),
-        TokenKind::LeftBracket => goes(stack, depth, &[Frame::ForPair]),
+        TokenKind::Identifier => goes(fresh, depth, &[Frame::ForTyped]),
+        TokenKind::LeftBracket => goes(fresh, depth, &[Frame::ForPair]),
         _ => path_inside(
-            stack,
+            fresh,
             depth,
             0,
             &[
@@ -442,13 +460,14 @@ pub fn for_named(stack: &mut Stack, depth: u64, kind: TokenKind) -> Result<Answe
     }
 }
 
-pub fn for_pair(stack: &mut Stack, depth: u64, kind: TokenKind) -> Result<Answer, AllocError>
-    requires { depth ≤ 2 ^ 32 }
-    ensures { IfOk result (Does depth (machine.for_pair kind) (frames_of stack.old) (frames_of stack.new)) }
+pub fn for_pair(fresh: &mut Fresh, depth: u64, kind: TokenKind) -> Answer
+    requires fits { depth ≤ 2 ^ 32 }
+    requires room { HasRoom 8 fresh.now }
+    ensures { Does depth (machine.for_pair kind) (frames_of fresh.old) (frames_of fresh.new) result }
 {
     match kind {
         TokenKind::RightBracket => goes(
-            stack,
+            fresh,
             depth,
             &[
                 Frame::Brackets,
@@ -457,7 +476,7 @@ pub fn for_pair(stack: &mut Stack, depth: u64, kind: TokenKind) -> Result<Answer
             ],
         ),
         _ => begins_inside(
-            stack,
+            fresh,
             depth,
             1,
             &[
@@ -478,14 +497,15 @@ pub fn for_pair(stack: &mut Stack, depth: u64, kind: TokenKind) -> Result<Answer
     }
 }
 
-pub fn for_condition(stack: &mut Stack, depth: u64, kind: TokenKind) -> Result<Answer, AllocError>
-    requires { depth ≤ 2 ^ 32 }
-    ensures { IfOk result (Does depth (machine.for_condition kind) (frames_of stack.old) (frames_of stack.new)) }
+pub fn for_condition(fresh: &mut Fresh, depth: u64, kind: TokenKind) -> Answer
+    requires fits { depth ≤ 2 ^ 32 }
+    requires room { HasRoom 8 fresh.now }
+    ensures { Does depth (machine.for_condition kind) (frames_of fresh.old) (frames_of fresh.new) result }
 {
     match kind {
-        TokenKind::Semicolon => goes(stack, depth, &[Frame::ForUpdate]),
+        TokenKind::Semicolon => goes(fresh, depth, &[Frame::ForUpdate]),
         _ => begins_inside(
-            stack,
+            fresh,
             depth,
             0,
             &[
@@ -498,14 +518,15 @@ pub fn for_condition(stack: &mut Stack, depth: u64, kind: TokenKind) -> Result<A
     }
 }
 
-pub fn for_update(stack: &mut Stack, depth: u64, kind: TokenKind) -> Result<Answer, AllocError>
-    requires { depth ≤ 2 ^ 32 }
-    ensures { IfOk result (Does depth (machine.for_update kind) (frames_of stack.old) (frames_of stack.new)) }
+pub fn for_update(fresh: &mut Fresh, depth: u64, kind: TokenKind) -> Answer
+    requires fits { depth ≤ 2 ^ 32 }
+    requires room { HasRoom 8 fresh.now }
+    ensures { Does depth (machine.for_update kind) (frames_of fresh.old) (frames_of fresh.new) result }
 {
     match kind {
-        TokenKind::RightParen => goes(stack, depth, &[]),
+        TokenKind::RightParen => goes(fresh, depth, &[]),
         _ => begins_inside(
-            stack,
+            fresh,
             depth,
             0,
             &[(0, Frame::Expect(TokenKind::RightParen))],
@@ -515,76 +536,82 @@ pub fn for_update(stack: &mut Stack, depth: u64, kind: TokenKind) -> Result<Answ
     }
 }
 
-pub fn switch_block(stack: &mut Stack, depth: u64, kind: TokenKind) -> Result<Answer, AllocError>
-    requires { depth ≤ 2 ^ 32 }
-    ensures { IfOk result (Does depth (machine.switch_block kind) (frames_of stack.old) (frames_of stack.new)) }
+pub fn switch_block(fresh: &mut Fresh, depth: u64, kind: TokenKind) -> Answer
+    requires fits { depth ≤ 2 ^ 32 }
+    requires room { HasRoom 8 fresh.now }
+    ensures { Does depth (machine.switch_block kind) (frames_of fresh.old) (frames_of fresh.new) result }
 {
     match kind {
-        TokenKind::LeftBrace => goes(stack, depth, &[Frame::Groups]),
-        _ => Ok(Answer::Refused),
+        TokenKind::LeftBrace => goes(fresh, depth, &[Frame::Groups]),
+        _ => Answer::Refused,
     }
 }
 
-pub fn groups(stack: &mut Stack, depth: u64, kind: TokenKind) -> Result<Answer, AllocError>
-    requires { depth ≤ 2 ^ 32 }
-    ensures { IfOk result (Does depth (machine.groups kind) (frames_of stack.old) (frames_of stack.new)) }
+pub fn groups(fresh: &mut Fresh, depth: u64, kind: TokenKind) -> Answer
+    requires fits { depth ≤ 2 ^ 32 }
+    requires room { HasRoom 8 fresh.now }
+    ensures { Does depth (machine.groups kind) (frames_of fresh.old) (frames_of fresh.new) result }
 {
     match kind {
-        TokenKind::RightBrace => goes(stack, depth, &[]),
-        TokenKind::Case => goes(stack, depth, &[Frame::CaseValue, Frame::Group]),
+        TokenKind::RightBrace => goes(fresh, depth, &[]),
+        TokenKind::Case => goes(fresh, depth, &[Frame::CaseValue, Frame::Group]),
         TokenKind::Default => goes(
-            stack,
+            fresh,
             depth,
             &[Frame::Expect(TokenKind::Colon), Frame::Group],
         ),
-        _ => Ok(Answer::Refused),
+        _ => Answer::Refused,
     }
 }
 
-pub fn group(stack: &mut Stack, depth: u64, kind: TokenKind) -> Result<Answer, AllocError>
-    requires { depth ≤ 2 ^ 32 }
-    ensures { IfOk result (Does depth (machine.group kind) (frames_of stack.old) (frames_of stack.new)) }
+pub fn group(fresh: &mut Fresh, depth: u64, kind: TokenKind) -> Answer
+    requires fits { depth ≤ 2 ^ 32 }
+    requires room { HasRoom 8 fresh.now }
+    ensures { Does depth (machine.group kind) (frames_of fresh.old) (frames_of fresh.new) result }
 {
     match kind {
-        TokenKind::RightBrace => goes(stack, depth, &[]),
-        TokenKind::Case => goes(stack, depth, &[Frame::CaseValue, Frame::Group]),
+        TokenKind::RightBrace => goes(fresh, depth, &[]),
+        TokenKind::Case => goes(fresh, depth, &[Frame::CaseValue, Frame::Group]),
         TokenKind::Default => goes(
-            stack,
+            fresh,
             depth,
             &[Frame::Expect(TokenKind::Colon), Frame::Group],
         ),
-        _ => block_statement_inside(stack, depth, &[(0, Frame::Group)], kind),
+        _ => block_statement_inside(fresh, depth, &[(0, Frame::Group)], kind),
     }
 }
 
-pub fn negative_value(stack: &mut Stack, depth: u64, kind: TokenKind) -> Result<Answer, AllocError>
-    requires { depth ≤ 2 ^ 32 }
-    ensures { IfOk result (Does depth (machine.negative_value kind) (frames_of stack.old) (frames_of stack.new)) }
+pub fn negative_value(fresh: &mut Fresh, depth: u64, kind: TokenKind) -> Answer
+    requires fits { depth ≤ 2 ^ 32 }
+    requires room { HasRoom 8 fresh.now }
+    ensures { Does depth (machine.negative_value kind) (frames_of fresh.old) (frames_of fresh.new) result }
 {
     if is_case_value(kind) {
-        goes(stack, depth, &[Frame::Expect(TokenKind::Colon)])
+        goes(fresh, depth, &[Frame::Expect(TokenKind::Colon)])
     } else {
-        Ok(Answer::Refused)
+        Answer::Refused
     }
 }
 
-pub fn case_value(stack: &mut Stack, depth: u64, kind: TokenKind) -> Result<Answer, AllocError>
-    requires { depth ≤ 2 ^ 32 }
-    ensures { IfOk result (Does depth (machine.case_value kind) (frames_of stack.old) (frames_of stack.new)) }
+pub fn case_value(fresh: &mut Fresh, depth: u64, kind: TokenKind) -> Answer
+    requires fits { depth ≤ 2 ^ 32 }
+    requires room { HasRoom 8 fresh.now }
+    ensures { Does depth (machine.case_value kind) (frames_of fresh.old) (frames_of fresh.new) result }
 {
     match kind {
-        TokenKind::Minus => goes(stack, depth, &[Frame::NegativeValue]),
-        _ => negative_value(stack, depth, kind),
+        TokenKind::Minus => goes(fresh, depth, &[Frame::NegativeValue]),
+        _ => negative_value(fresh, depth, kind),
     }
 }
 
-pub fn catches(stack: &mut Stack, depth: u64, kind: TokenKind) -> Result<Answer, AllocError>
-    requires { depth ≤ 2 ^ 32 }
-    ensures { IfOk result (Does depth (machine.catches kind) (frames_of stack.old) (frames_of stack.new)) }
+pub fn catches(fresh: &mut Fresh, depth: u64, kind: TokenKind) -> Answer
+    requires fits { depth ≤ 2 ^ 32 }
+    requires room { HasRoom 8 fresh.now }
+    ensures { Does depth (machine.catches kind) (frames_of fresh.old) (frames_of fresh.new) result }
 {
     match kind {
         TokenKind::Catch => takes(
-            stack,
+            fresh,
             depth,
             0,
             &[
@@ -596,27 +623,29 @@ pub fn catches(stack: &mut Stack, depth: u64, kind: TokenKind) -> Result<Answer,
                 (0, Frame::MoreCatches),
             ],
         ),
-        _ => Ok(Answer::Refused),
+        _ => Answer::Refused,
     }
 }
 
-pub fn more_catches(stack: &mut Stack, depth: u64, kind: TokenKind) -> Result<Answer, AllocError>
-    requires { depth ≤ 2 ^ 32 }
-    ensures { IfOk result (Does depth (machine.more_catches kind) (frames_of stack.old) (frames_of stack.new)) }
+pub fn more_catches(fresh: &mut Fresh, depth: u64, kind: TokenKind) -> Answer
+    requires fits { depth ≤ 2 ^ 32 }
+    requires room { HasRoom 8 fresh.now }
+    ensures { Does depth (machine.more_catches kind) (frames_of fresh.old) (frames_of fresh.new) result }
 {
     match kind {
-        TokenKind::Catch => catches(stack, depth, TokenKind::Catch),
-        _ => Ok(Answer::Passed),
+        TokenKind::Catch => catches(fresh, depth, TokenKind::Catch),
+        _ => Answer::Passed,
     }
 }
 
-pub fn catch_type(stack: &mut Stack, depth: u64, kind: TokenKind) -> Result<Answer, AllocError>
-    requires { depth ≤ 2 ^ 32 }
-    ensures { IfOk result (Does depth (machine.catch_type kind) (frames_of stack.old) (frames_of stack.new)) }
+pub fn catch_type(fresh: &mut Fresh, depth: u64, kind: TokenKind) -> Answer
+    requires fits { depth ≤ 2 ^ 32 }
+    requires room { HasRoom 8 fresh.now }
+    ensures { Does depth (machine.catch_type kind) (frames_of fresh.old) (frames_of fresh.new) result }
 {
     match kind {
-        TokenKind::Final => goes(stack, depth, &[Frame::Expect(TokenKind::Identifier)]),
-        TokenKind::Identifier => goes(stack, depth, &[]),
-        _ => Ok(Answer::Refused),
+        TokenKind::Final => goes(fresh, depth, &[Frame::Expect(TokenKind::Identifier)]),
+        TokenKind::Identifier => goes(fresh, depth, &[]),
+        _ => Answer::Refused,
     }
 }

@@ -15,7 +15,7 @@ type Row = (
     &'static str,
 );
 
-fn name_of(end: End) -> &'static str {
+pub fn name_of(end: End) -> &'static str {
     match end {
         End::Whole => "whole",
         End::Open(_) => "open",
@@ -24,7 +24,7 @@ fn name_of(end: End) -> &'static str {
     }
 }
 
-fn tokens_of(alloc: Global, kinds: &[TokenKind]) -> Result<Vec<Token>, Fail> {
+pub fn tokens_of(alloc: Global, kinds: &[TokenKind]) -> Result<Vec<Token>, Fail> {
     let mut tokens = Vec::new(alloc);
     for kind in kinds {
         tokens.push(Token {
@@ -35,10 +35,10 @@ fn tokens_of(alloc: Global, kinds: &[TokenKind]) -> Result<Vec<Token>, Fail> {
     Ok(tokens)
 }
 
-fn check_all(rt: &impl Abort, alloc: Global, limit: u32, rows: &[Row]) -> Result<(), Fail> {
+fn check_all(rt: &impl Abort, alloc: Global, rows: &[Row]) -> Result<(), Fail> {
     for row in rows {
         let tokens = tokens_of(alloc, row.2)?;
-        let found = scan(alloc, row.0, limit, &tokens)?;
+        let found = scan(row.0, &tokens);
         assert_eq!(rt; found.read, row.3, "tokens of {:?}", row.1);
         assert_eq!(rt; name_of(found.end), row.4, "the end of {:?}", row.1);
     }
@@ -722,61 +722,17 @@ const SNIPPETS: [Row; 9] = [
     ),
 ];
 
-const DEEP: [Row; 3] = [
-    (
-        Start::Expression,
-        "((a))",
-        &[
-            TokenKind::LeftParen,
-            TokenKind::LeftParen,
-            TokenKind::Identifier,
-            TokenKind::RightParen,
-            TokenKind::RightParen,
-        ],
-        1,
-        "too deep",
-    ),
-    (
-        Start::Statement,
-        "{ { } }",
-        &[
-            TokenKind::LeftBrace,
-            TokenKind::LeftBrace,
-            TokenKind::RightBrace,
-            TokenKind::RightBrace,
-        ],
-        1,
-        "too deep",
-    ),
-    (
-        Start::Expression,
-        "(a)",
-        &[
-            TokenKind::LeftParen,
-            TokenKind::Identifier,
-            TokenKind::RightParen,
-        ],
-        3,
-        "whole",
-    ),
-];
-
 #[test]
 fn takes_expressions(rt: HostRuntime) -> Result<(), Fail> {
-    check_all(&rt, rt.alloc(), 256, &EXPRESSIONS)
+    check_all(&rt, rt.alloc(), &EXPRESSIONS)
 }
 
 #[test]
 fn takes_statements(rt: HostRuntime) -> Result<(), Fail> {
-    check_all(&rt, rt.alloc(), 256, &STATEMENTS)
+    check_all(&rt, rt.alloc(), &STATEMENTS)
 }
 
 #[test]
 fn takes_snippets(rt: HostRuntime) -> Result<(), Fail> {
-    check_all(&rt, rt.alloc(), 256, &SNIPPETS)
-}
-
-#[test]
-fn stops_at_the_limit(rt: HostRuntime) -> Result<(), Fail> {
-    check_all(&rt, rt.alloc(), 1, &DEEP)
+    check_all(&rt, rt.alloc(), &SNIPPETS)
 }

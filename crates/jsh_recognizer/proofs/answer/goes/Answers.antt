@@ -5,4 +5,4 @@ use Rattle.jsh_recognizer.proofs.Inside.{onto-here}
 use Rattle.jsh_recognizer.proofs.answer.goes.Goals as goal
 
 pub returns : goal.returns
-returns c = (sym (add-zero _), c.in_ok-put_each.ensures ∙ onto-here c.args.depth c.args.frames.now (frames_of c.args.stack.now))
+returns c = (sym (add-zero _), c.put_each.ensures.frames ∙ onto-here c.args.depth c.args.frames.now (frames_of c.args.fresh.now))

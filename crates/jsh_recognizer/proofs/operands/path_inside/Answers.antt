@@ -8,8 +8,8 @@ use Rattle.jsh_recognizer.proofs.operands.path_inside.Goals as goal
 pub returns : goal.returns
 returns c =
     let same : c.from.result ≡ c.args.deeper = omega arith in
-    let P : ℕ → Type 0 = λ n. Does (c.args.depth + n) (machine.behind_path c.args.context c.args.ending c.args.kind) (frames_of c.put_all.new.self)
-    (frames_of c.behind_path.new.stack) c.in_ok-answer.answer in
-    does-inside c.args.depth c.args.deeper c.args.more.now (machine.behind_path c.args.context c.args.ending c.args.kind) (frames_of c.args.stack.now)
-    (frames_of c.put_all.new.self) (frames_of c.behind_path.new.stack) c.in_ok-answer.answer c.closed.result c.in_ok-put_all.ensures
-    (subst P same c.in_ok-answer.ensures) c.closed.ensures
+    let P : ℕ → Type 0 = λ n. Does (c.args.depth + n) (machine.behind_path c.args.context c.args.ending c.args.kind) (frames_of c.put_all.new.fresh)
+    (frames_of c.behind_path-answer.new.fresh) c.behind_path-answer.result in
+    does-inside c.args.depth c.args.deeper c.args.more.now (machine.behind_path c.args.context c.args.ending c.args.kind) (frames_of c.args.fresh.now)
+    (frames_of c.put_all.new.fresh) (frames_of c.behind_path-answer.new.fresh) c.behind_path-answer.result c.closed.result c.put_all.ensures.frames
+    (subst P same c.behind_path-answer.ensures) c.closed.ensures

@@ -5,8 +5,8 @@ use Rattle.jsh_recognizer.proofs.recognizer.find.Given as goal
 
 abbrev pub invariant-loop-left : goal.invariant-loop-left
 invariant-loop-left l =
-    (l.left ≤ length l.stack.slots.items) ×
-    SameSteps l.kind (reverse l.stack.slots.items) (reverse (take l.left l.stack.slots.items))
+    (l.left ≤ length l.stack.items) ×
+    SameSteps l.kind (reverse l.stack.items) (reverse (take l.left l.stack.items))
 
 abbrev pub decreases-loop-left : goal.decreases-loop-left
 decreases-loop-left l = l.left

@@ -5,8 +5,8 @@ use Rattle.jsh_recognizer.proofs.recognizer.Recognizer.is_whole.Given as goal
 
 abbrev pub invariant-loop-left : goal.invariant-loop-left
 invariant-loop-left l =
-    (l.left ≤ length l.self.stack.slots.items) ×
-    (may_all_stop (reverse l.self.stack.slots.items) ≡ may_all_stop (reverse (take l.left l.self.stack.slots.items)))
+    (l.left ≤ length l.self.stack.items) ×
+    (may_all_stop (reverse l.self.stack.items) ≡ may_all_stop (reverse (take l.left l.self.stack.items)))
 
 abbrev pub decreases-loop-left : goal.decreases-loop-left
 decreases-loop-left l = l.left

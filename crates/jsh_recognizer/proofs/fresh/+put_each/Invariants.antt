@@ -1,5 +1,5 @@
 use Rattle.std.proofs.Common.{length}
-use Rattle.jsh_recognizer.proofs.stack.Stack.+put_each.Given as goal
+use Rattle.jsh_recognizer.proofs.fresh.+put_each.Given as goal
 
 abbrev pub decreases-put_each : goal.decreases-put_each
 decreases-put_each l = length l.frames.now

@@ -1,5 +1,5 @@
 use Rattle.std.proofs.Common.{length}
-use Rattle.jsh_recognizer.proofs.stack.Stack.+put_all.Given as goal
+use Rattle.jsh_recognizer.proofs.fresh.+put_all.Given as goal
 
 abbrev pub decreases-put_all : goal.decreases-put_all
 decreases-put_all l = length l.frames.now
