@@ -50,18 +50,6 @@ pub refuses_trees : {A : Type 0} (text : List ℕ) (room : ℕ) (ts : List Token
 refuses_trees text room ts at e (Ok a) same h = absurd same
 refuses_trees text room ts at e (Err f) same h = λ n. unread text room ts at e h (λ k. n (same ∙ k))
 
-limited : (text : List ℕ) (room : ℕ) (ts : List Token) (at : ℕ) (e : ParseError) (limit : ℕ) → Reads ts at (snippet_at text room ts) (Err e) →
-    e ≡ error.TooDeep limit → limit ≡ 256
-limited text room ts at error.NoMemory limit h k = cc
-limited text room ts at (error.Wanted place wanted) limit h k = cc
-limited text room ts at (error.TooDeep n) limit h k = let same : n ≡ limit = cc in sym same ∙ h.1
-
--- and tells the limit, where it tells one
-pub tells_limit : {A : Type 0} (text : List ℕ) (room : ℕ) (ts : List Token) (at : ℕ) (e : ParseError) (r : Result A ParseError) → IsErrAnd r (λ f. f ≡ e) →
-    Reads ts at (snippet_at text room ts) (Err e) → (limit : ℕ) → r ≡ Err (error.TooDeep limit) → limit ≡ 256
-tells_limit text room ts at e (Ok a) same h limit k = absurd same
-tells_limit text room ts at e (Err f) same h limit k = let told : f ≡ error.TooDeep limit = cc in limited text room ts at e limit h (sym same ∙ told)
-
 -- where neither the tokens nor these and a semicolon are a snippet, they are no source
 pub no_source : (text : List ℕ) (room : ℕ) (ts : List Token) → ((tree : Tree) → IsSnippet text room ts tree → ⊥) →
     ((tree : Tree) → IsSnippet text room (ts ++ semicolon_at_end text ∷ []) tree → ⊥) → (tree : Tree) → IsSource text room ts tree → ⊥

@@ -23,3 +23,4 @@ mod DeclarationOnward
 mod DeclarationMembers
 mod DeclarationSnippets
 mod DeclarationAllTokens
+mod DeclarationRefused

@@ -16,7 +16,7 @@ use Rattle.jsh_parse.specs.declared.forms.Form.TheVariants as form
 use Rattle.jsh_parse.specs.Forms.{form_of}
 use Rattle.jsh_parse.specs.Statements as statements
 use Rattle.jsh_parse.specs.Statements.{IsStmt}
-use Rattle.jsh_parse.specs.Tables.{kinds}
+use Rattle.jsh_recognizer.specs.Recognizing.{kinds}
 use Rattle.jsh_parse.proofs.TableSymbols.{none, one, in_part, in_deep, AllKnown, Whole, by_whole}
 use Rattle.jsh_parse.proofs.TableValues.{HasValue}
 use Rattle.jsh_parse.proofs.StatementTableSpelled.{statement_spelled}

@@ -7,7 +7,7 @@ ghost use Rattle.jsh_tree.specs.declared.tree.Tree.{Tree};
 ghost use Rattle.jsh_grammar.specs.Productions.{snippet};
 ghost use Rattle.jsh_grammar.specs.Fronts.{IsWhole};
 ghost use Rattle.jsh_parse.specs.Reading.{AreTaken};
-ghost use Rattle.jsh_parse.specs.Tables.{kinds};
+ghost use Rattle.jsh_recognizer.specs.Recognizing.{kinds};
 ghost use Rattle.jsh_decl.specs.Declarations.{IsSnippet, IsSource};
 ghost use Rattle.jsh_decl.specs.DeclarationReader.{snippet_at};
 

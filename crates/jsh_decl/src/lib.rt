@@ -1,11 +1,13 @@
 //! The parser of snippets: exactly the grammar, with at most 256 constructs in one another.
 #![tactic(auto)]
 
-ghost use Rattle.std.specs.Prelude.{◌≡◌, ◌≢◌, ◌^◌, ◌<◌, ◌++◌, ◌∷◌, [], ℕ, length, IfOk, IfErr};
+ghost use Rattle.std.specs.Prelude.{◌≡◌, ◌≢◌, ◌^◌, ◌<◌, ◌++◌, ◌∷◌, [], length, IfOk, IfErr};
 ghost use Rattle.jsh_lex.specs.Spelling.{AreTokensBehind};
 ghost use Rattle.jsh_tree.specs.declared.tree.Tree.{Tree};
-ghost use Rattle.jsh_parse.specs.declared.error.ParseError.TheVariants.{NoMemory, TooDeep};
+ghost use Rattle.jsh_grammar.specs.Productions as table;
+ghost use Rattle.jsh_parse.specs.declared.error.ParseError.TheVariants.{NoMemory};
 ghost use Rattle.jsh_parse.specs.Reading.{AreTaken, semicolon_at_end};
+ghost use Rattle.jsh_parse.specs.Refusals.{IsRefusal};
 ghost use Rattle.jsh_decl.specs.Declarations.{IsSnippet, IsSource};
 
 mod heads;
@@ -19,7 +21,8 @@ mod word_input;
 mod words;
 
 use crate::snippet::snippet as read_snippet;
-use jsh_parse::{Input, LIMIT, ParseError};
+use jsh_parse::{Input, LIMIT, ParseError, refusal};
+use jsh_recognizer::Start;
 use jsh_tree::{Span, Token, TokenKind, Tree};
 pub use laws::{one_snippet, snippets_are_decided, snippets_are_in_the_table};
 use std::alloc::{AllocError, Global};
@@ -28,20 +31,27 @@ use std::alloc::{AllocError, Global};
 pub fn parse_snippet(alloc: Global, text: &str, tokens: &[Token]) -> Result<Tree, ParseError>
     // The tokens are tokens of the text, as the lexis gives them, perhaps with a semicolon that
     // stands for its end.
-    requires { AreTaken text.now tokens.now }
+    requires taken { AreTaken text.now tokens.now }
+    // A place can count its bytes.
+    requires short { length text.now < 2 ^ 32 }
     ensures ok { IfOk result (λ tree. IsSnippet text.now 256 tokens.now tree) }
     ensures refused { IfErr result (λ e. e ≢ NoMemory → (tree : Tree) → IsSnippet text.now 256 tokens.now tree → ⊥) }
-    ensures limit { (limit : ℕ) → result ≡ Err (TooDeep limit) → limit ≡ 256 }
+    ensures refusal { IfErr result (IsRefusal table.snippet text.now tokens.now) }
 {
     let input = Input::new(alloc, text, tokens);
-    whole(&input)
+    match whole(&input) {
+        Ok(tree) => Ok(tree),
+        Err(error) => match error {
+            ParseError::NoMemory => Err(ParseError::NoMemory),
+            _ => Err(refusal(&input, Start::Snippet)),
+        },
+    }
 }
 
 /// The snippet that all tokens are.
 fn whole(input: &Input) -> Result<Tree, ParseError>
     ensures ok { IfOk result (λ tree. IsSnippet input.now.text.now 256 input.now.tokens.now tree) }
     ensures refused { IfErr result (λ e. e ≢ NoMemory → (tree : Tree) → IsSnippet input.now.text.now 256 input.now.tokens.now tree → ⊥) }
-    ensures limit { (limit : ℕ) → result ≡ Err (TooDeep limit) → limit ≡ 256 }
 {
     let (tree, end) = read_snippet(input, 0, LIMIT)?;
     if end < input.tokens.len() {
@@ -58,19 +68,20 @@ pub fn parse_source(alloc: Global, text: &str, tokens: &[Token]) -> Result<Tree,
     requires few { length text.now < 2 ^ 32 }
     ensures ok { IfOk result (λ tree. IsSource text.now 256 tokens.now tree) }
     ensures refused { IfErr result (λ e. e ≢ NoMemory → (tree : Tree) → IsSource text.now 256 tokens.now tree → ⊥) }
-    ensures limit { (limit : ℕ) → result ≡ Err (TooDeep limit) → limit ≡ 256 }
+    // Where they are none with the semicolon either, the refusal is that of the tokens as they are.
+    ensures refusal { IfErr result (IsRefusal table.snippet text.now tokens.now) }
 {
-    let refusal = match parse_snippet(alloc, text, tokens) {
-        Err(refusal) => refusal,
+    let first = match parse_snippet(alloc, text, tokens) {
+        Err(first) => first,
         Ok(tree) => return Ok(tree),
     };
-    if let ParseError::NoMemory = refusal {
-        return Err(refusal);
+    if let ParseError::NoMemory = first {
+        return Err(first);
     }
     let ended = with_semicolon(alloc, text, tokens)?;
     match parse_snippet(alloc, text, &ended) {
         Err(ParseError::NoMemory) => Err(ParseError::NoMemory),
-        Err(_) => Err(refusal),
+        Err(_) => Err(first),
         Ok(tree) => Ok(tree),
     }
 }
@@ -93,6 +104,8 @@ fn with_semicolon(alloc: Global, text: &str, tokens: &[Token]) -> Result<Vec<Tok
 mod expression_shape;
 #[cfg(test)]
 mod shape;
+#[cfg(test)]
+mod spellings;
 #[cfg(test)]
 mod statement_shape;
 #[cfg(test)]

@@ -1,4 +1,5 @@
 use crate::shape::shape_of;
+use crate::spellings::{joined, with_token};
 use crate::{ParseError, parse_snippet, parse_source};
 use jsh_lex::{LexError, lex};
 use jsh_tree::{Boxed, TokenKind, Tree};
@@ -376,129 +377,188 @@ fn sources_have_their_trees(rt: HostRuntime) -> Result<(), Fail> {
     have_shapes(&rt, rt.alloc(), &SOURCES)
 }
 
-const SEMICOLON: Option<TokenKind> = Some(TokenKind::Semicolon);
+const ASSIGN: Option<TokenKind> = Some(TokenKind::Assign);
 
-const IDENTIFIER: Option<TokenKind> = Some(TokenKind::Identifier);
+const CATCH: Option<TokenKind> = Some(TokenKind::Catch);
+
+const COLON: Option<TokenKind> = Some(TokenKind::Colon);
+
+const DOT: Option<TokenKind> = Some(TokenKind::Dot);
 
 const LEFT_BRACE: Option<TokenKind> = Some(TokenKind::LeftBrace);
 
-const RIGHT_BRACE: Option<TokenKind> = Some(TokenKind::RightBrace);
+const LEFT_PAREN: Option<TokenKind> = Some(TokenKind::LeftParen);
 
-const RIGHT_PAREN: Option<TokenKind> = Some(TokenKind::RightParen);
+const NAME: Option<TokenKind> = Some(TokenKind::Identifier);
 
-/// Texts that are no snippets, the places at which they aren't, and what could stand there.
-const REFUSED: [(&str, u32, Option<TokenKind>); 91] = [
-    // declarations and expressions that are cut short or go on
-    ("a.b c;", 4, SEMICOLON),
-    ("int[] x[];", 7, SEMICOLON),
-    ("int x[];", 5, SEMICOLON),
-    ("int x y;", 6, SEMICOLON),
-    ("a b c;", 4, SEMICOLON),
-    ("a[] b[0];", 5, SEMICOLON),
-    ("a[] = b;", 2, None),
-    ("var x;", 5, Some(TokenKind::Assign)),
-    ("var[] x = 1;", 3, IDENTIFIER),
-    ("var x = {1};", 8, None),
-    ("a; b;", 3, None),
-    ("int x; int y;", 7, None),
-    // statements
-    ("if (a) b() else c;", 11, SEMICOLON),
-    ("if (a) int x;", 7, None),
-    ("if (a) else b();", 7, None),
-    ("a + b; else", 7, None),
-    ("for (a ? b : c; ; ) ;", 14, None),
-    ("for (int x = 1, y = 2; ; ) ;", 14, SEMICOLON),
-    ("for (i = 0, j = 0; ; ) ;", 10, SEMICOLON),
-    ("for (x : xs) ;", 7, None),
-    ("switch (a) { case b: }", 18, None),
-    ("switch (a) { case 1 + 1: }", 20, Some(TokenKind::Colon)),
-    ("switch (a) { f(); }", 13, RIGHT_BRACE),
-    ("case 1: ;", 0, None),
-    ("else ;", 0, None),
-    ("catch (A a) { }", 0, None),
-    ("{ int x = 1 }", 12, SEMICOLON),
-    ("{ f() }", 6, SEMICOLON),
-    ("{ return }", 9, None),
-    ("{ a + b; }", 7, None),
-    ("{ class A { } }", 2, None),
-    ("{ static int x; }", 2, None),
-    ("{", 1, RIGHT_BRACE),
+const SEMICOLON: Option<TokenKind> = Some(TokenKind::Semicolon);
+
+/// Texts that are no snippets, each in two pieces: the refusal's place is where the second begins. One
+/// class of token alone could stand there, or none.
+const REFUSED: [(&str, &str, Option<TokenKind>); 27] = [
+    // statements and variables
+    ("var x", ";", ASSIGN),
+    ("var", "[] x = 1;", NAME),
+    ("a; ", "b;", None),
+    ("int x; ", "int y;", None),
+    ("a + b; ", "else", None),
+    ("switch (a) { case 1 ", "+ 1: }", COLON),
+    ("break ", "a;", SEMICOLON),
+    ("try { } ", "finally { }", CATCH),
+    ("try { } catch (A a) { } ", "finally { }", CATCH),
+    ("try ", "(A a = b) { } catch (C c) { }", LEFT_BRACE),
+    ("try { } catch (A ", "| B c) { }", NAME),
     // methods
-    ("void f();", 9, LEFT_BRACE),
-    ("void f() throws { }", 16, IDENTIFIER),
-    ("void f(int) { }", 10, IDENTIFIER),
-    ("void f(int x, ) { }", 14, IDENTIFIER),
-    ("void f(var x) { }", 7, IDENTIFIER),
-    ("void f(static int x) { }", 7, IDENTIFIER),
-    ("void[] f() { }", 4, IDENTIFIER),
-    ("int f()[] { }", 7, LEFT_BRACE),
-    ("f() { }", 4, SEMICOLON),
+    ("void f() throws ", "{ }", NAME),
+    ("void", "[] f() { }", NAME),
+    ("void f", "{ }", LEFT_PAREN),
+    ("void f() { } ", ";", None),
     // classes and interfaces
-    ("class A", 7, LEFT_BRACE),
-    ("class A { static int x; }", 10, IDENTIFIER),
-    ("class A { static void f() { } }", 10, IDENTIFIER),
-    ("class A { var x = 1; }", 10, None),
-    ("class A { int x }", 16, SEMICOLON),
-    ("class A { int x = 1 }", 20, SEMICOLON),
-    ("class A { A(); }", 13, LEFT_BRACE),
-    ("class A { void A() { this(1); } }", 25, None),
-    ("class A { class B { } }", 10, IDENTIFIER),
-    ("class A { { } }", 10, IDENTIFIER),
-    ("class A { x = 1; }", 12, IDENTIFIER),
-    ("class A extends B, C { }", 17, LEFT_BRACE),
-    ("class A implements { }", 19, IDENTIFIER),
-    ("class A implements B extends C { }", 21, LEFT_BRACE),
-    ("class A.B { }", 7, LEFT_BRACE),
-    ("interface A { ; }", 14, IDENTIFIER),
-    ("interface A { int x; }", 19, Some(TokenKind::LeftParen)),
-    ("interface A { void f() { } }", 27, SEMICOLON),
-    ("interface A { static void f(); }", 14, IDENTIFIER),
-    ("interface A { private void f(); }", 14, IDENTIFIER),
-    ("interface A implements B { }", 12, LEFT_BRACE),
-    ("static { }", 7, IDENTIFIER),
-    ("public a();", 8, IDENTIFIER),
-    ("final ;", 6, IDENTIFIER),
-    ("public import a.b;", 7, IDENTIFIER),
+    ("class ", "{ }", NAME),
+    ("class A extends ", "{", NAME),
+    ("class A implements ", "{ }", NAME),
+    ("class A { } ", ";", None),
+    ("interface ", "extends A { }", NAME),
+    ("interface A { int x", "; }", LEFT_PAREN),
+    ("interface A { } ", "int x;", None),
     // imports
-    ("import a;", 8, Some(TokenKind::Dot)),
-    ("import static a;", 15, Some(TokenKind::Dot)),
-    ("import *;", 7, IDENTIFIER),
-    ("import a.;", 9, IDENTIFIER),
-    ("import a.*.b;", 10, SEMICOLON),
-    ("import a.b c;", 11, SEMICOLON),
-    ("import static static a.b;", 14, IDENTIFIER),
-    // what the language leaves out
-    ("a: b();", 1, SEMICOLON),
-    ("break a;", 6, SEMICOLON),
-    ("x -> y;", 3, None),
-    ("A::b;", 1, SEMICOLON),
-    ("try { } finally { }", 8, Some(TokenKind::Catch)),
-    ("try { } catch (A a) { } finally { }", 24, None),
-    ("try (A a = b) { } catch (C c) { }", 4, LEFT_BRACE),
-    ("try { } catch (A | B c) { }", 17, IDENTIFIER),
-    ("int x, y;", 5, SEMICOLON),
-    ("class A { int x, y; }", 15, SEMICOLON),
-    ("void f(int... x) { }", 10, IDENTIFIER),
-    ("A<B, C> x;", 3, SEMICOLON),
-    ("class A<T> { }", 7, LEFT_BRACE),
-    ("enum A { }", 0, None),
-    ("assert a;", 0, None),
-    ("synchronized (a) { }", 0, None),
-    ("package a;", 0, None),
+    ("import a", ";", DOT),
+    ("import static a", ";", DOT),
+    ("import a.*", ".b;", SEMICOLON),
+    ("import static ", "static a.b;", NAME),
+    ("import a.b; ", "import c.d;", None),
 ];
 
-#[test]
-fn other_texts_are_no_snippets(rt: HostRuntime) {
-    for (text, place, wanted) in &REFUSED {
-        let expected = ParseError::Wanted {
-            place: *place,
-            wanted: *wanted,
-        };
-        match read(&rt, rt.alloc(), text) {
-            Ok(_) => assert!(rt; false, "a tree of {text:?}"),
-            Err(error) => assert_eq!(rt; error, expected, "the refusal of {text:?}"),
+/// The same of texts in which several classes could stand there.
+const OPEN: [(&str, &str); 82] = [
+    // declarations and expressions that are cut short or go on
+    ("", ") x"),
+    ("a.b ", "c;"),
+    ("int[] x", "[];"),
+    ("int x", "[];"),
+    ("int x ", "y;"),
+    ("int ", "= 3;"),
+    ("a b ", "c"),
+    ("a b ", "c;"),
+    ("a[] b", "[0];"),
+    ("a[] ", "= b;"),
+    ("var x = ", "{1};"),
+    ("x = ", "= 1"),
+    ("f(a,", ""),
+    ("(int) ++", ""),
+    ("1 +", ""),
+    // statements
+    ("if (a) b() ", "else c;"),
+    ("if (a) ", "int x;"),
+    ("if (a) ", "else b();"),
+    ("for (a ", "? b : c; ; ) ;"),
+    ("for (int x = 1", ", y = 2; ; ) ;"),
+    ("for (i = 0", ", j = 0; ; ) ;"),
+    ("for (int i = 0; i < ", "; )"),
+    ("for (x ", ": xs) ;"),
+    ("switch (a) { case ", "b: }"),
+    ("switch (a) { ", "f(); }"),
+    ("", "case 1: ;"),
+    ("", "case 1:"),
+    ("", "else ;"),
+    ("", "else f();"),
+    ("", "catch (A a) { }"),
+    ("{ int x = 1 ", "}"),
+    ("{ f() ", "}"),
+    ("{ return ", "}"),
+    ("{ a ", "+ b; }"),
+    ("{ ", "class A { } }"),
+    ("{ ", "static int x; }"),
+    ("{", ""),
+    // methods
+    ("void f()", ";"),
+    ("void f(int", ") { }"),
+    ("void f(int x, ", ") { }"),
+    ("void f(", "var x) { }"),
+    ("void f(", "static int x) { }"),
+    ("int f()", "[] { }"),
+    ("f() ", "{ }"),
+    // classes and interfaces
+    ("class A", ""),
+    ("class A { ", "static int x; }"),
+    ("class A { ", "static void f() { } }"),
+    ("class A { ", "var x = 1; }"),
+    ("class A { int x ", "}"),
+    ("class A { int x = 1 ", "}"),
+    ("class A { A()", "; }"),
+    ("class A { void A() { this", "(1); } }"),
+    ("class A { ", "class B { } }"),
+    ("class A { ", "{ } }"),
+    ("class A { x ", "= 1; }"),
+    ("class A extends B", ", C { }"),
+    ("class A implements B ", "extends C { }"),
+    ("class A", ".B { }"),
+    ("interface A { ", "; }"),
+    ("interface A { void f() ", "{ } }"),
+    ("interface A { ", "static void f(); }"),
+    ("interface A { ", "private void f(); }"),
+    ("interface A ", "implements B { }"),
+    ("static ", "{ }"),
+    ("public a", "();"),
+    ("final ", ";"),
+    ("public ", "import a.b;"),
+    // imports
+    ("import ", "*;"),
+    ("import a.", ";"),
+    ("import a.b ", "c;"),
+    // what the language leaves out
+    ("a", ": b();"),
+    ("x -", "> y;"),
+    ("A", "::b;"),
+    ("int x", ", y;"),
+    ("class A { int x", ", y; }"),
+    ("void f(int", "... x) { }"),
+    ("A<B", ", C> x;"),
+    ("class A", "<T> { }"),
+    ("", "enum A { }"),
+    ("", "assert a;"),
+    ("", "synchronized (a) { }"),
+    ("", "package a;"),
+];
+
+/// What a refused text wants at the place where its second piece begins. With that in its stead, the
+/// text is taken, or refused only at its end.
+fn wanted_at(
+    rt: &impl Abort,
+    alloc: Global,
+    front: &str,
+    behind: &str,
+) -> Result<Option<TokenKind>, Fail> {
+    let text = joined(alloc, front, behind)?;
+    let Err(ParseError::Wanted { place, wanted }) = read(rt, alloc, text.as_str()) else {
+        return Err(Fail::from("a text isn't refused at a token"));
+    };
+    assert_eq!(rt; place as usize, front.len(), "the place in {text:?}");
+    let Some(kind) = wanted else {
+        return Ok(None);
+    };
+    let further = with_token(alloc, front, kind)?;
+    match read(rt, alloc, further.as_str()) {
+        Ok(_) => {}
+        Err(ParseError::Wanted { place, .. }) => {
+            assert_eq!(rt; place as usize, further.len(), "the place in {further:?}");
         }
+        Err(_) => return Err(Fail::from("a text isn't refused at a token")),
     }
+    Ok(wanted)
+}
+
+#[test]
+fn other_texts_are_no_snippets(rt: HostRuntime) -> Result<(), Fail> {
+    for (front, behind, expected) in &REFUSED {
+        let wanted = wanted_at(&rt, rt.alloc(), front, behind)?;
+        assert_eq!(rt; wanted, *expected, "what {front:?} wants");
+    }
+    for (front, behind) in &OPEN {
+        let wanted = wanted_at(&rt, rt.alloc(), front, behind)?;
+        assert!(rt; wanted.is_some(), "what {front:?} wants");
+    }
+    Ok(())
 }
 
 /// An annotation has no tokens.
@@ -517,13 +577,17 @@ fn a_snippet_has_its_semicolon(rt: HostRuntime) {
     match lex(rt.alloc(), text) {
         Ok(tokens) => match parse_snippet(rt.alloc(), text, &tokens) {
             Ok(_) => assert!(rt; false, "a tree without a semicolon"),
-            Err(error) => assert_eq!(rt;
-                error,
-                ParseError::Wanted {
-                    place: 9,
-                    wanted: SEMICOLON
-                }
-            ),
+            Err(error) => {
+                assert!(rt;
+                    matches!(
+                        &error,
+                        ParseError::Wanted {
+                            place: 9,
+                            wanted: Some(_)
+                        }
+                    )
+                );
+            }
         },
         Err(_) => assert!(rt; false, "no tokens"),
     }
@@ -546,6 +610,33 @@ fn at_most_256_constructs_stand_in_one_another(rt: HostRuntime) {
         },
         Err(_) => assert!(rt; false, "no memory"),
     }
+}
+
+/// The same of parentheses, which a semicolon follows.
+#[test]
+fn a_snippet_has_at_most_256_parentheses(rt: HostRuntime) -> Result<(), Fail> {
+    let deepest = parenthesized(rt.alloc(), 256)?;
+    assert!(rt; read(&rt, rt.alloc(), deepest.as_str()).is_ok());
+    let too_deep = parenthesized(rt.alloc(), 257)?;
+    match read(&rt, rt.alloc(), too_deep.as_str()) {
+        Ok(_) => assert!(rt; false, "a tree"),
+        Err(error) => assert_eq!(rt; error, ParseError::TooDeep { limit: 256 }),
+    }
+    Ok(())
+}
+
+/// `1` in so many pairs of parentheses, and a semicolon.
+fn parenthesized(alloc: Global, depth: u32) -> Result<String, AllocError> {
+    let mut text = String::new(alloc);
+    for _ in 0..depth {
+        text.push_str("(")?;
+    }
+    text.push_str("1")?;
+    for _ in 0..depth {
+        text.push_str(")")?;
+    }
+    text.push_str(";")?;
+    Ok(text)
 }
 
 /// A method with so many blocks in its own.

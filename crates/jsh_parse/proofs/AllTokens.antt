@@ -7,7 +7,7 @@ use Rattle.jsh_tree.specs.declared.expression.Expr.{Expr}
 use Rattle.jsh_parse.specs.declared.error.ParseError.{ParseError}
 use Rattle.jsh_parse.specs.declared.error.ParseError.TheVariants as error
 use Rattle.jsh_parse.specs.Grammar.{IsExpr}
-use Rattle.jsh_parse.specs.Reading.{Reads, IsWanted, expr_at}
+use Rattle.jsh_parse.specs.Reading.{Reads, expr_at}
 use Rattle.jsh_parse.proofs.Onward.{inner_expr}
 use Rattle.jsh_parse.proofs.Sound.{sound_whole}
 use Rattle.jsh_parse.proofs.Complete.{complete-whole}
@@ -53,26 +53,8 @@ unread text room ts at error.NoMemory h n tree d = n refl
 unread text room ts at (error.Wanted place wanted) h n tree d = nothing (tree, []) (sym h ∙ read_whole text room ts tree d)
 unread text room ts at (error.TooDeep limit) h n tree d = nothing (tree, []) (sym h.0 ∙ read_whole text room ts tree d)
 
--- the limit that is told
-pub limited : (text : List ℕ) (room : ℕ) (ts : List Token) (at : ℕ) (e : ParseError) (limit : ℕ) → Reads ts at (expr_at text room ts) (Err e) → e ≡ error.TooDeep limit → limit ≡ 256
-limited text room ts at error.NoMemory limit h k = cc
-limited text room ts at (error.Wanted place wanted) limit h k = cc
-limited text room ts at (error.TooDeep n) limit h k = let same : n ≡ limit = cc in sym same ∙ h.1
-
 -- an error that is handed on refuses every tree
 pub refuses_trees : {A : Type 0} (text : List ℕ) (room : ℕ) (ts : List Token) (at : ℕ) (e : ParseError) (r : Result A ParseError) → IsErrAnd r (λ f. f ≡ e) →
     Reads ts at (expr_at text room ts) (Err e) → IfErr r (λ f. f ≢ error.NoMemory → (tree : Expr) → IsExpr text room ts tree → ⊥)
 refuses_trees text room ts at e (Ok a) same h = absurd same
 refuses_trees text room ts at e (Err f) same h = λ n. unread text room ts at e h (λ k. n (same ∙ k))
-
--- and tells the limit, where it tells one
-pub tells_limit : {A : Type 0} (text : List ℕ) (room : ℕ) (ts : List Token) (at : ℕ) (e : ParseError) (r : Result A ParseError) → IsErrAnd r (λ f. f ≡ e) →
-    Reads ts at (expr_at text room ts) (Err e) → (limit : ℕ) → r ≡ Err (error.TooDeep limit) → limit ≡ 256
-tells_limit text room ts at e (Ok a) same h limit k = absurd same
-tells_limit text room ts at e (Err f) same h limit k = let told : f ≡ error.TooDeep limit = cc in limited text room ts at e limit h (sym same ∙ told)
-
--- a refusal of a token tells none
-pub tells_none : {A : Type 0} (e : ParseError) → IsWanted e → (limit : ℕ) → ◌≡◌ {A = Result A ParseError} (Err e) (Err (error.TooDeep limit)) → limit ≡ 256
-tells_none error.NoMemory w limit h = absurd w
-tells_none (error.Wanted place wanted) w limit h = let told : error.Wanted place wanted ≡ error.TooDeep limit = cc in cc
-tells_none (error.TooDeep n) w limit h = absurd w

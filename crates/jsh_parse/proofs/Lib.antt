@@ -45,3 +45,5 @@ pub mod StatementTableLayers
 pub mod StatementTableExpressions
 pub mod StatementTableDerived
 pub mod StatementTableSpelled
+mod Refused
+pub mod OneRefusal

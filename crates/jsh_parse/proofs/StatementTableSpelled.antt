@@ -33,7 +33,7 @@ use Rattle.jsh_parse.specs.Grammar as expressions
 use Rattle.jsh_parse.specs.Grammar.{IsExpr, IsUnary, IsPath, AreParts, IsPrimary, AreArguments}
 use Rattle.jsh_parse.specs.Statements as grammar
 use Rattle.jsh_parse.specs.Statements.{is_statement, IsFinal, IsType, IsVariable, IsOptional, IsUpdate, IsForStart, IsLabel, AreLabels, IsCondition, IsStmt, IsBlock, AreStatements, AreGroups, AreCatches}
-use Rattle.jsh_parse.specs.Tables.{kinds}
+use Rattle.jsh_recognizer.specs.Recognizing.{kinds}
 use Rattle.jsh_parse.proofs.LayerLemmas.{index-Call}
 use Rattle.jsh_parse.proofs.TableSymbols.{AreSymbols, none, one, among, in_part, in_deep, AllKnown, Whole, by_whole}
 use Rattle.jsh_parse.proofs.TableValues.{HasValue}

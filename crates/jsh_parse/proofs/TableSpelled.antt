@@ -22,7 +22,7 @@ use Rattle.jsh_parse.specs.Leaves as leaves
 use Rattle.jsh_parse.specs.Grammar as grammar
 use Rattle.jsh_parse.specs.Grammar.{IsExpr, IsConditional, IsLevel, AreOperations, IsUnary, IsPostfix, IsPath, AreParts, IsPrimary, AreSizes, AreArguments, AreListed, AreBraces, AreInitials, IsInitial}
 use Rattle.jsh_parse.specs.Statements.{IsType, named}
-use Rattle.jsh_parse.specs.Tables.{kinds}
+use Rattle.jsh_recognizer.specs.Recognizing.{kinds}
 use Rattle.jsh_parse.proofs.LayerLemmas.{open-Literal, open-This, open-Parenthesized, open-Name, open-Call, open-SuperCall, open-New, open-NewArrayOf, index-Field, index-Call}
 use Rattle.jsh_parse.proofs.TableSymbols.{AreSymbols, none, one, among, in_part, in_deep, AllKnown, Whole, by_whole}
 use Rattle.jsh_parse.proofs.TableValues.{HasValue}

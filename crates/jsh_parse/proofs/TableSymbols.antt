@@ -7,7 +7,7 @@ use Rattle.jsh_grammar.specs.Productions.{Part, Symbol, IsProduction}
 use Rattle.jsh_grammar.specs.Productions as table
 use Rattle.jsh_grammar.specs.Fronts.{Derives, IsWhole, whole}
 use Rattle.jsh_grammar.specs.Fronts as fronts
-use Rattle.jsh_parse.specs.Tables.{kinds}
+use Rattle.jsh_recognizer.specs.Recognizing.{kinds}
 
 -- The tokens stand for these symbols, where something is known of each token and of the tokens of each part.
 pub data AreSymbols (Known : Token → Type 0) (Is : Part → ℕ → List Token → Type 0) : ℕ → List Symbol → List Token → Type 0 where

@@ -8,4 +8,4 @@ pub mod Reader
 pub mod Reading
 pub mod StatementReader
 pub mod StatementReading
-pub mod Tables
+pub mod Refusals

@@ -1,20 +1,20 @@
 use jsh_tree::TokenKind;
 use std::alloc::{AllocError, AllocFailed};
 
-/// Why tokens aren't an expression.
+/// Why tokens aren't an expression, a statement or a snippet.
 #[derive(Clone, Copy, Debug, PartialEq, Eq)]
 pub enum ParseError {
     /// Memory ran out.
     NoMemory,
-    /// The tokens don't go on as an expression does.
+    /// The tokens stop being a prefix, or they are one and end too soon.
     Wanted {
-        /// The first byte of the token with which the parser stopped, or the length of the text
-        /// where it stopped behind the last one.
+        /// The first byte of the first token with which they stop being a prefix, or the length of
+        /// the text where all of them are one.
         place: u32,
-        /// One class of token that could stand there, where the parser looked for one.
+        /// One class of token that could stand there, `None` exactly where no token could.
         wanted: Option<TokenKind>,
     },
-    /// More than `limit` constructs stand in one another.
+    /// The tokens so far are a prefix, and the next one stands in more than `limit` constructs.
     TooDeep {
         limit: u32,
     },

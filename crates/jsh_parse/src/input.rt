@@ -7,6 +7,7 @@ ghost use Rattle.jsh_parse.specs.Marks as spec;
 ghost use Rattle.jsh_parse.specs.Reader as reader;
 ghost use Rattle.jsh_parse.specs.Reading as read;
 ghost use Rattle.jsh_parse.specs.Reading.{Reads, IsWithin, AreWithin, AreTaken, IsWanted};
+ghost use Rattle.jsh_parse.specs.Refusals.{place_of};
 
 use crate::error::ParseError;
 use crate::marks::{
@@ -28,6 +29,7 @@ pub struct Input<'a> {
     pub tokens: &'a [Token],
     ghost within: { AreWithin text.now tokens.now },
     ghost few: { length tokens.now ≤ 2 ^ 32 },
+    ghost short: { length text.now < 2 ^ 32 },
 }
 
 /// Where the last token ends.
@@ -42,7 +44,8 @@ fn end_of(tokens: &[Token]) -> u32
 
 impl<'a> Input<'a> {
     pub fn new(alloc: Global, text: &'a str, tokens: &'a [Token]) -> Input<'a>
-        requires { AreTaken text.now tokens.now }
+        requires taken { AreTaken text.now tokens.now }
+        requires short { length text.now < 2 ^ 32 }
         ensures text { result.text.now ≡ text.now }
         ensures tokens { result.tokens.now ≡ tokens.now }
     {
@@ -71,14 +74,21 @@ impl<'a> Input<'a> {
         self.tokens.len().saturating_sub(at)
     }
 
+    /// The first byte of the token at a place, or the length of the text where none stands there.
+    pub fn place(&self, at: usize) -> u32
+        ensures { result ≡ place_of self.now.text.now (drop at self.now.tokens.now) }
+    {
+        match self.token(at) {
+            Some(token) => token.span.from,
+            None => self.text.len() as u32,
+        }
+    }
+
     /// The refusal of the token at a place.
     pub fn refuse(&self, at: usize, wanted: Option<TokenKind>) -> ParseError
         ensures { IsWanted result }
     {
-        let place = match self.token(at) {
-            Some(token) => token.span.from,
-            None => u32::try_from(self.text.len()).unwrap_or(u32::MAX),
-        };
+        let place = self.place(at);
         ParseError::Wanted { place, wanted }
     }
 }

@@ -1,8 +1,10 @@
+use crate::spellings::{joined, with_token};
 use crate::{ParseError, parse_stmt};
 use jsh_lex::lex;
 use jsh_tree::{Stmt, TokenKind};
 use std::alloc::Global;
 use std::process::Abort;
+use std::test::Fail;
 
 /// What the tokens of a text are read as.
 fn read(rt: &impl Abort, alloc: Global, text: &str) -> Result<Stmt, ParseError> {
@@ -88,46 +90,151 @@ fn statements_have_their_forms(rt: HostRuntime) {
     }
 }
 
+const ASSIGN: Option<TokenKind> = Some(TokenKind::Assign);
+
+const CATCH: Option<TokenKind> = Some(TokenKind::Catch);
+
+const COLON: Option<TokenKind> = Some(TokenKind::Colon);
+
+const ELSE: Option<TokenKind> = Some(TokenKind::Else);
+
+const LEFT_BRACE: Option<TokenKind> = Some(TokenKind::LeftBrace);
+
+const LEFT_PAREN: Option<TokenKind> = Some(TokenKind::LeftParen);
+
+const NAME: Option<TokenKind> = Some(TokenKind::Identifier);
+
+const RIGHT_PAREN: Option<TokenKind> = Some(TokenKind::RightParen);
+
 const SEMICOLON: Option<TokenKind> = Some(TokenKind::Semicolon);
 
-/// Texts that are no statements, the places at which they aren't, and what could stand there.
-const REFUSED: [(&str, u32, Option<TokenKind>); 24] = [
-    ("", 0, None),
-    ("x", 1, None),
-    ("x;", 1, None),
-    ("x = 1", 5, SEMICOLON),
-    ("a + b;", 5, None),
-    ("{", 1, Some(TokenKind::RightBrace)),
-    ("{ int x }", 8, SEMICOLON),
-    ("{ var x; }", 7, Some(TokenKind::Assign)),
-    ("if a", 3, Some(TokenKind::LeftParen)),
-    ("if (a", 5, Some(TokenKind::RightParen)),
-    ("if (a) else", 7, None),
-    ("if (a) ; ; ", 9, None),
-    ("do ; until", 5, Some(TokenKind::While)),
-    ("do ; while (a)", 14, SEMICOLON),
-    ("for (a; ; )", 6, None),
-    ("for (; ; a)", 10, None),
-    ("for (int x y : z)", 11, SEMICOLON),
-    ("for (x : y) ;", 7, None),
-    ("switch (a) { f(); }", 13, Some(TokenKind::RightBrace)),
-    ("switch (a) { case b: }", 18, None),
-    ("switch (a) { case 1 }", 20, Some(TokenKind::Colon)),
-    ("break a;", 6, SEMICOLON),
-    ("throw;", 5, None),
-    ("try { }", 7, Some(TokenKind::Catch)),
+const WHILE: Option<TokenKind> = Some(TokenKind::While);
+
+/// Texts that are no statements, each in two pieces: the refusal's place is where the second begins. One
+/// class of token alone could stand there, or none.
+const REFUSED: [(&str, &str, Option<TokenKind>); 30] = [
+    ("x(); ", "y();", None),
+    ("; ", ";", None),
+    ("{ } ", "{ }", None),
+    ("x = 1; ", "else ;", None),
+    ("do ; ", "until", WHILE),
+    ("do ; while (a)", "", SEMICOLON),
+    ("do { } while ", "a;", LEFT_PAREN),
+    ("if ", "a", LEFT_PAREN),
+    ("while ", "{ }", LEFT_PAREN),
+    ("for ", "int", LEFT_PAREN),
+    ("if (a) ; ", "; ", ELSE),
+    ("if (a) ; else ; ", "else ;", None),
+    ("switch ", "{ }", LEFT_PAREN),
+    ("switch (a) ", "case 1:", LEFT_BRACE),
+    ("switch (a) { case 1 ", "}", COLON),
+    ("switch (a) { case 1 ", "+ 1: }", COLON),
+    ("switch (a) { default ", "1: }", COLON),
+    ("break ", "a;", SEMICOLON),
+    ("continue", "", SEMICOLON),
+    ("{ var x", "; }", ASSIGN),
+    ("{ var ", "= 1; }", NAME),
+    ("{ final var x ", ": y; }", ASSIGN),
+    ("try ", "(a) { }", LEFT_BRACE),
+    ("try { }", "", CATCH),
+    ("try { } catch ", "{ }", LEFT_PAREN),
+    ("try { } catch (A", ") { }", NAME),
+    ("try { } catch (A ", "| B c) { }", NAME),
+    ("try { } catch (final A a", ", b) { }", RIGHT_PAREN),
+    ("try { } catch (A a) ", ";", LEFT_BRACE),
+    ("try { } catch (A a) { } ", "finally { }", CATCH),
 ];
 
+/// The same of texts in which several classes could stand there.
+const OPEN: [(&str, &str); 32] = [
+    ("", ""),
+    ("", ") x"),
+    ("", "case 1:"),
+    ("", "else f();"),
+    ("", "int x;"),
+    ("x", ""),
+    ("x", ";"),
+    ("x = 1", ""),
+    ("x = 1 ", "y;"),
+    ("a ", "+ b;"),
+    ("a() ", "= b;"),
+    ("{", ""),
+    ("{ int x ", "}"),
+    ("{ ", "else ; }"),
+    ("{ f() ", "}"),
+    ("if (a", ""),
+    ("if (a)", ""),
+    ("if (a) ", "else"),
+    ("while (a) ", "int x;"),
+    ("for (a", "; ; )"),
+    ("for (; ; a", ")"),
+    ("for (int x ", "y : z)"),
+    ("for (x ", ": y) ;"),
+    ("for (int i = 0; i < ", "; )"),
+    ("for (int x = 1", ", y = 2; ; ) ;"),
+    ("for (var x ", "; ; ) ;"),
+    ("for (int x : ", ") ;"),
+    ("switch (a) { ", "f(); }"),
+    ("switch (a) { case ", "b: }"),
+    ("switch (a) { case -", ": }"),
+    ("throw", ";"),
+    ("return ", "else"),
+];
+
+/// What a refused text wants at the place where its second piece begins. With that in its stead, the
+/// text is taken, or refused only at its end.
+fn wanted_at(
+    rt: &impl Abort,
+    alloc: Global,
+    front: &str,
+    behind: &str,
+) -> Result<Option<TokenKind>, Fail> {
+    let text = joined(alloc, front, behind)?;
+    let Err(ParseError::Wanted { place, wanted }) = read(rt, alloc, text.as_str()) else {
+        return Err(Fail::from("a text isn't refused at a token"));
+    };
+    assert_eq!(rt; place as usize, front.len(), "the place in {text:?}");
+    let Some(kind) = wanted else {
+        return Ok(None);
+    };
+    let further = with_token(alloc, front, kind)?;
+    match read(rt, alloc, further.as_str()) {
+        Ok(_) => {}
+        Err(ParseError::Wanted { place, .. }) => {
+            assert_eq!(rt; place as usize, further.len(), "the place in {further:?}");
+        }
+        Err(_) => return Err(Fail::from("a text isn't refused at a token")),
+    }
+    Ok(wanted)
+}
+
 #[test]
-fn other_texts_are_no_statements(rt: HostRuntime) {
-    for (text, place, wanted) in &REFUSED {
-        let expected = ParseError::Wanted {
-            place: *place,
-            wanted: *wanted,
-        };
-        match read(&rt, rt.alloc(), text) {
-            Ok(_) => assert!(rt; false, "a tree of {text:?}"),
-            Err(error) => assert_eq!(rt; error, expected, "the refusal of {text:?}"),
+fn other_texts_are_no_statements(rt: HostRuntime) -> Result<(), Fail> {
+    for (front, behind, expected) in &REFUSED {
+        let wanted = wanted_at(&rt, rt.alloc(), front, behind)?;
+        assert_eq!(rt; wanted, *expected, "what {front:?} wants");
+    }
+    for (front, behind) in &OPEN {
+        let wanted = wanted_at(&rt, rt.alloc(), front, behind)?;
+        assert!(rt; wanted.is_some(), "what {front:?} wants");
+    }
+    Ok(())
+}
+
+#[test]
+fn an_if_without_its_statement_wants_it_behind(rt: HostRuntime) {
+    match read(&rt, rt.alloc(), "if (a)") {
+        Ok(_) => assert!(rt; false, "a tree"),
+        Err(error) => {
+            assert!(rt;
+                matches!(
+                    &error,
+                    ParseError::Wanted {
+                        place: 6,
+                        wanted: Some(_)
+                    }
+                )
+            );
         }
     }
 }

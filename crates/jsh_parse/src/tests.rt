@@ -1,4 +1,5 @@
 use crate::shape::shape_of;
+use crate::spellings::{joined, with_token};
 use crate::{ParseError, parse_expr};
 use jsh_lex::lex;
 use jsh_tree::{Expr, TokenKind};
@@ -158,64 +159,126 @@ fn texts_have_their_trees(rt: HostRuntime) -> Result<(), Fail> {
 
 const NAME: Option<TokenKind> = Some(TokenKind::Identifier);
 
-const CLOSE: Option<TokenKind> = Some(TokenKind::RightParen);
+const DOT: Option<TokenKind> = Some(TokenKind::Dot);
 
-/// Texts that are no expressions, the places at which they aren't, and what could stand there.
-const REFUSED: [(&str, u32, Option<TokenKind>); 40] = [
-    ("", 0, None),
-    ("a b", 2, None),
-    ("a +", 3, None),
-    ("* a", 0, None),
-    ("a + + ", 6, None),
-    ("(a", 2, CLOSE),
-    ("a)", 1, None),
-    ("()", 1, None),
-    ("a ? b", 5, Some(TokenKind::Colon)),
-    ("a ? b : ", 8, None),
-    ("a ? b : c = d", 10, None),
-    ("a : b", 2, None),
-    ("1 = a", 2, None),
-    ("a + b = c", 6, None),
-    ("(a) = b", 4, None),
-    ("a() = b", 4, None),
-    ("a++ = b", 4, None),
-    ("a = b +", 7, None),
-    ("++1", 3, None),
-    ("++a++", 5, None),
-    ("++ ++a", 6, None),
-    ("a++ ++", 4, None),
-    ("a()++", 3, None),
-    ("(a)++", 3, None),
-    ("1--", 1, None),
-    ("--a()", 5, None),
-    ("a.", 2, NAME),
-    ("a.\"s\"", 2, NAME),
-    ("a[]", 2, None),
-    ("a[b", 3, Some(TokenKind::RightBracket)),
-    ("f(a,)", 4, None),
-    ("f(a b)", 4, CLOSE),
-    ("super", 5, Some(TokenKind::Dot)),
-    ("super.a", 7, Some(TokenKind::LeftParen)),
-    ("new", 3, NAME),
-    ("new int", 7, Some(TokenKind::LeftBracket)),
-    ("new int()", 7, Some(TokenKind::LeftBracket)),
-    ("new int[3] {1}", 11, None),
-    ("new int[]", 9, Some(TokenKind::LeftBrace)),
-    ("(int) ", 6, None),
+const LEFT_PAREN: Option<TokenKind> = Some(TokenKind::LeftParen);
+
+const LEFT_BRACKET: Option<TokenKind> = Some(TokenKind::LeftBracket);
+
+const RIGHT_BRACKET: Option<TokenKind> = Some(TokenKind::RightBracket);
+
+/// Texts that are no expressions, each in two pieces: the refusal's place is where the second begins. One
+/// class of token alone could stand there, or none.
+const REFUSED: [(&str, &str, Option<TokenKind>); 12] = [
+    ("a.", "", NAME),
+    ("a.", "\"s\"", NAME),
+    ("a.", "(b)", NAME),
+    ("super", "", DOT),
+    ("super ", "+ a", DOT),
+    ("super.", "(a)", NAME),
+    ("super.a", "", LEFT_PAREN),
+    ("super.a", ".b", LEFT_PAREN),
+    ("new int", "", LEFT_BRACKET),
+    ("new int", "()", LEFT_BRACKET),
+    ("(int[", ") a", RIGHT_BRACKET),
+    ("x instanceof int[", "0]", RIGHT_BRACKET),
 ];
 
-#[test]
-fn other_texts_are_refused(rt: HostRuntime) {
-    for (text, place, wanted) in &REFUSED {
-        let expected = ParseError::Wanted {
-            place: *place,
-            wanted: *wanted,
-        };
-        match read(&rt, rt.alloc(), text) {
-            Ok(_) => assert!(rt; false, "a tree of {text:?}"),
-            Err(error) => assert_eq!(rt; error, expected, "the refusal of {text:?}"),
+/// The same of texts in which several classes could stand there.
+const OPEN: [(&str, &str); 53] = [
+    ("", ""),
+    ("", "* a"),
+    ("", ") x"),
+    ("a ", "b"),
+    ("a ", "b c"),
+    ("a", ")"),
+    ("a ", ": b"),
+    ("1 +", ""),
+    ("a + + ", ""),
+    ("a * ", "* b"),
+    ("(a", ""),
+    ("(", ")"),
+    ("(a ", "b c)"),
+    ("a ? b", ""),
+    ("a ? b : ", ""),
+    ("a ? b : c ", "= d"),
+    ("1 ", "= a"),
+    ("a + b ", "= c"),
+    ("(a) ", "= b"),
+    ("a() ", "= b"),
+    ("a++ ", "= b"),
+    ("a = b +", ""),
+    ("x = ", "= 1"),
+    ("++1", ""),
+    ("++a", "++"),
+    ("++ ", "++a"),
+    ("a++ ", "++"),
+    ("a()", "++"),
+    ("(a)", "++"),
+    ("1", "--"),
+    ("--a()", ""),
+    ("a[", "]"),
+    ("a[b", ""),
+    ("a[b ", "c]"),
+    ("f(a,", ""),
+    ("f(a,", ")"),
+    ("f(a ", "b)"),
+    ("f(", ", a)"),
+    ("new", ""),
+    ("new ", "(a)"),
+    ("new A", ""),
+    ("new A ", "b"),
+    ("new int[3] ", "{1}"),
+    ("new int[]", ""),
+    ("new int[] ", "= a"),
+    ("new int[] {1 ", "2}"),
+    ("(int) ", ""),
+    ("(int) ", "* a"),
+    ("(int) ++", ""),
+    ("(int", ""),
+    ("(int ", "+ 1)"),
+    ("(a[]) ", "+ b"),
+    ("x instanceof ", "1"),
+];
+
+/// What a refused text wants at the place where its second piece begins. With that in its stead, the
+/// text is taken, or refused only at its end.
+fn wanted_at(
+    rt: &impl Abort,
+    alloc: Global,
+    front: &str,
+    behind: &str,
+) -> Result<Option<TokenKind>, Fail> {
+    let text = joined(alloc, front, behind)?;
+    let Err(ParseError::Wanted { place, wanted }) = read(rt, alloc, text.as_str()) else {
+        return Err(Fail::from("a text isn't refused at a token"));
+    };
+    assert_eq!(rt; place as usize, front.len(), "the place in {text:?}");
+    let Some(kind) = wanted else {
+        return Ok(None);
+    };
+    let further = with_token(alloc, front, kind)?;
+    match read(rt, alloc, further.as_str()) {
+        Ok(_) => {}
+        Err(ParseError::Wanted { place, .. }) => {
+            assert_eq!(rt; place as usize, further.len(), "the place in {further:?}");
         }
+        Err(_) => return Err(Fail::from("a text isn't refused at a token")),
     }
+    Ok(wanted)
+}
+
+#[test]
+fn other_texts_are_refused(rt: HostRuntime) -> Result<(), Fail> {
+    for (front, behind, expected) in &REFUSED {
+        let wanted = wanted_at(&rt, rt.alloc(), front, behind)?;
+        assert_eq!(rt; wanted, *expected, "what {front:?} wants");
+    }
+    for (front, behind) in &OPEN {
+        let wanted = wanted_at(&rt, rt.alloc(), front, behind)?;
+        assert!(rt; wanted.is_some(), "what {front:?} wants");
+    }
+    Ok(())
 }
 
 /// The text with so many parentheses about `1`.
@@ -241,6 +304,68 @@ fn at_most_256_constructs_stand_in_one_another(rt: HostRuntime) -> Result<(), Fa
         Err(error) => assert_eq!(rt; error, ParseError::TooDeep { limit: 256 }),
     }
     Ok(())
+}
+
+/// Of a text that goes wrong and too deep, the refusal tells what comes first.
+#[test]
+fn the_place_in_front_is_told(rt: HostRuntime) -> Result<(), Fail> {
+    let too_deep = nested(rt.alloc(), 257)?;
+    let broken_before = joined(rt.alloc(), "* ", too_deep.as_str())?;
+    match read(&rt, rt.alloc(), broken_before.as_str()) {
+        Ok(_) => assert!(rt; false, "a tree"),
+        Err(error) => {
+            assert!(rt;
+                matches!(
+                    &error,
+                    ParseError::Wanted {
+                        place: 0,
+                        wanted: Some(_)
+                    }
+                )
+            );
+        }
+    }
+    let broken_behind = joined(rt.alloc(), too_deep.as_str(), " b")?;
+    match read(&rt, rt.alloc(), broken_behind.as_str()) {
+        Ok(_) => assert!(rt; false, "a tree"),
+        Err(error) => assert_eq!(rt; error, ParseError::TooDeep { limit: 256 }),
+    }
+    let deepest = nested(rt.alloc(), 256)?;
+    let one_more = joined(rt.alloc(), deepest.as_str(), ")")?;
+    match read(&rt, rt.alloc(), one_more.as_str()) {
+        Ok(_) => assert!(rt; false, "a tree"),
+        Err(error) => {
+            assert!(rt;
+                matches!(
+                    &error,
+                    ParseError::Wanted {
+                        place: 513,
+                        wanted: Some(_)
+                    }
+                )
+            );
+        }
+    }
+    Ok(())
+}
+
+#[test]
+fn a_sum_without_its_end_wants_it_behind(rt: HostRuntime) {
+    assert!(rt; read(&rt, rt.alloc(), "1 + 2").is_ok());
+    match read(&rt, rt.alloc(), "1 +") {
+        Ok(_) => assert!(rt; false, "a tree"),
+        Err(error) => {
+            assert!(rt;
+                matches!(
+                    &error,
+                    ParseError::Wanted {
+                        place: 3,
+                        wanted: Some(_)
+                    }
+                )
+            );
+        }
+    }
 }
 
 #[test]

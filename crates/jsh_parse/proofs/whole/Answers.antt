@@ -1,22 +1,15 @@
 use Rattle.std.proofs.Common.{sym, subst, arith}
 use Rattle.jsh_parse.specs.Grammar.{IsExpr}
-use Rattle.jsh_parse.proofs.AllTokens.{whole_spelled, left_over, refuses_trees, tells_limit, tells_none}
+use Rattle.jsh_parse.proofs.AllTokens.{whole_spelled, left_over, refuses_trees}
 use Rattle.jsh_parse.proofs.whole.Goals as goal
 
 pub returns-in_err-tree-clause-refused : goal.returns-in_err-tree-clause-refused
 returns-in_err-tree-clause-refused c =
     refuses_trees c.args.input.now.text.now 256 c.args.input.now.tokens.now 0 c.in_err-tree.field-0.0 c.from_residual.result c.from_residual.ensures.1 c.in_err-tree.ensures
 
-pub returns-in_err-tree-clause-limit : goal.returns-in_err-tree-clause-limit
-returns-in_err-tree-clause-limit c =
-    tells_limit c.args.input.now.text.now 256 c.args.input.now.tokens.now 0 c.in_err-tree.field-0.0 c.from_residual.result c.from_residual.ensures.1 c.in_err-tree.ensures
-
 pub returns-then-end-input-clause-refused : goal.returns-then-end-input-clause-refused
 returns-then-end-input-clause-refused c = λ n.
     left_over c.args.input.now.text.now 256 c.args.input.now.tokens.now c.in_ok-tree.tree c.in_ok-tree.end (omega arith) c.in_ok-tree.ensures.1
-
-pub returns-then-end-input-clause-limit : goal.returns-then-end-input-clause-limit
-returns-then-end-input-clause-limit c = λ limit h. tells_none c.refuse.result c.refuse.ensures limit h
 
 pub returns-clause-ok : goal.returns-clause-ok
 returns-clause-ok c =

@@ -1,0 +1,8 @@
+use Rattle.jsh_parse.proofs.Refused.{no_expression}
+use Rattle.jsh_parse.proofs.parse_expr.Goals as goal
+
+pub refusal-requires : goal.refusal-requires
+refusal-requires c =
+    rw c.new-input.ensures.tokens
+    (no_expression c.args.text.now 256 c.args.tokens.now c.utf8.text c.requires.taken
+    (λ tree d. c.in-Err.ensures.refused c.in_default.not-NoMemory tree (rw (c.new-input.ensures.text, c.new-input.ensures.tokens) d)))
