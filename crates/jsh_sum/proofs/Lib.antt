@@ -1,5 +1,1 @@
-pub mod Bytes
-pub mod Found
-pub mod Read
-pub mod Refusal
-pub mod Spelled
+pub mod NoSum

@@ -1,13 +1,13 @@
-//! Sums of decimal literals: which sum a text spells (JLS 15.18), and its value.
+//! The language of sums: which trees are sums of `int` literals (JLS 15.18), and a sum's value.
 #![tactic(auto)]
 
-mod reader;
+mod reading;
 
 ghost use Rattle.std.specs.Prelude.{◌≡◌};
 ghost use Rattle.jsh_sum.specs.Sum.{value_of};
 
 use jsh_tree::{AdditiveOperator, Sum};
-pub use reader::parse_sum;
+pub use reading::{Reading, sum_of};
 
 /// The value of a sum as a Java `int`: what doesn't fit wraps (JLS 15.18.2).
 pub fn value_of(sum: &Sum) -> i32

@@ -1,0 +1,3 @@
+pub mod Diagnostics
+pub mod Verdict
+pub mod Causes
