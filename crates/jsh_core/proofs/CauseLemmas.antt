@@ -1,29 +1,38 @@
 -- What a step answers has its cause.
 use Rattle.std.proofs.Common.{◌≡◌, ℕ, zero, suc, ◌+◌, ◌<◌, ◌≤◌, ◌==◌, ◌⊎◌, inl, inr, Bool, true, false, List, [], ◌∷◌, ◌++◌, Option, None, Some, Result, Ok, Err, IfOk, length, refl, ap, sym, subst, ◌∙◌, arith, cond, not, nat_le, add-one}
 use Rattle.std.specs.Option.{option_and_then}
+use Rattle.std.specs.Str.{IsUtf8}
 use Rattle.std.proofs.lemmas.Bool.{leb-true, leb-false, eqb-true, eqb-false, cases_order}
 use Rattle.jsh_tree.specs.declared.tree.Sum.{Sum}
+use Rattle.jsh_tree.specs.declared.diagnostic.Diagnostic.{Diagnostic}
 use Rattle.jsh_text.specs.declared.memory.NoMemory.{NoMemory}
 use Rattle.jsh_snippet.specs.declared.acts.Act.{Act}
 use Rattle.jsh_snippet.specs.declared.acts.Act.TheVariants as act
 use Rattle.jsh_snippet.specs.declared.acts.Entry.{Entry}
+use Rattle.jsh_snippet.specs.declared.acts.Question.TheVariants as question
 use Rattle.jsh_snippet.specs.declared.records.Record.{Record}
 use Rattle.jsh_snippet.specs.declared.replies.Reply.{Reply}
+use Rattle.jsh_snippet.specs.declared.replies.ReplyBody.{ReplyBody}
 use Rattle.jsh_snippet.specs.declared.replies.ReplyBody.TheVariants as body
 use Rattle.jsh_snippet.specs.declared.replies.Collected.TheVariants as «collected»
 use Rattle.jsh_snippet.specs.declared.replies.Outcome.TheVariants as outcome
 use Rattle.jsh_snippet.specs.declared.replies.Refusal.TheVariants as refusal
 use Rattle.jsh_snippet.specs.declared.replies.LimitKind.TheVariants as limit
-use Rattle.jsh_sum.proofs.Found.{spelled_found}
+use Rattle.jsh_verdict.specs.declared.verdict.Verdict.{Verdict}
+use Rattle.jsh_verdict.specs.declared.verdict.Verdict.TheVariants.{Accepted, Rejected}
+use Rattle.jsh_verdict.specs.Verdict.{verdict}
+use Rattle.jsh_verdict.specs.Causes.{IsRejected}
+use Rattle.jsh_verdict.proofs.Because.{accepted_because, rejected_because}
+use Rattle.jsh_verdict.proofs.Decides.{accepts, rejects}
 use Rattle.jsh_core.specs.declared.world.Run.{Run}
 use Rattle.jsh_core.specs.declared.world.RunView.{RunView}
 use Rattle.jsh_core.specs.State.{State, Stepped, World, answer, numbered, refuses}
-use Rattle.jsh_core.specs.Snippets.{accepted, alive_count, judged, run_of, submitted, temporary_name, verdict}
+use Rattle.jsh_core.specs.Snippets.{accepted, alive_count, judged, rejected_reply, run_of, submitted, temporary_name}
 use Rattle.jsh_core.specs.Threads.{can_go_on, stepped, turn, turned, Turned}
 use Rattle.jsh_core.specs.Runs.{collect, collect_run, is_thread_alive, own_run, returned_text, run_view, standing, steps_so_far, view_of}
 use Rattle.jsh_core.specs.Clients.{enter}
 use Rattle.jsh_core.specs.Step.{act_step, step}
-use Rattle.jsh_core.specs.Causes.{CausesOfAct, CausesOfCollect, CausesOfEnter, CausesOfSubmit, CausesOfTurn, GoesSoFar, AnswerHasCause, IsOwner, IsOwnRun, SpellsSum, world_after}
+use Rattle.jsh_core.specs.Causes.{CausesOfAct, CausesOfCollect, CausesOfEnter, CausesOfSubmit, CausesOfTurn, GoesSoFar, AnswerHasCause, IsOwner, IsOwnRun, IsSum, world_after}
 use Rattle.jsh_core.specs.History.{Allows, MayDo, state_of}
 use Rattle.jsh_core.proofs.TurnLemmas.{further, turned-stuck, turned-suc, turned-zero}
 
@@ -43,27 +52,46 @@ enter-causes s = from (nat_le 64 (length s.clients)) refl
         let few : length s.clients < 64 = leb-false 64 (length s.clients) e in
         record { entered = (λ a. few, λ c. refl); clients = (λ a. (cc), λ many. absurd (omega arith)) }
 
-spells-none : (source : List ℕ) → verdict source ≡ None → ¬ SpellsSum source
-spells-none source none (sum, spelled) =
-    let found : verdict source ≡ Some sum = (spelled_found source (verdict source) refl sum).1 spelled in
+-- no source is accepted and rejected
+not_both : (source : List ℕ) (ds : List Diagnostic) → verdict source ≡ Rejected ds → ¬ IsSum source
+not_both source ds is (sum, accepted) =
+    let other : verdict source ≡ Accepted sum = accepts source sum accepted in
     cc
 
-spells-some : (source : List ℕ) (sum : Sum) → verdict source ≡ Some sum → SpellsSum source
-spells-some source sum found = (sum, (spelled_found source (verdict source) refl sum).0 found)
+not_rejected : (source : List ℕ) (sum : Sum) (ds : List Diagnostic) → verdict source ≡ Accepted sum → ¬ IsRejected source ds
+not_rejected source sum ds is rejected =
+    let other : verdict source ≡ Rejected ds = rejects source ds rejected in
+    cc
+
+-- the diagnostics of an answer
+abbrev diagnostics_of : ReplyBody → List Diagnostic
+diagnostics_of (body.Submitted what) = what.diagnostics
+diagnostics_of _ = []
+
+-- a rejection with these diagnostics has no others
+rejected-same : (source : List ℕ) (id : ℕ) (ds others : List Diagnostic) → verdict source ≡ Rejected ds → IsRejected source others →
+    body.Submitted (rejected_reply id ds) ≡ body.Submitted (rejected_reply id others)
+rejected-same source id ds others is rejected =
+    let other : verdict source ≡ Rejected others = rejects source others rejected in
+    let same : ds ≡ others = cc in
+    ap (λ (xs : List Diagnostic). body.Submitted (rejected_reply id xs)) same
 
 -- a snippet that was judged, below the limit of records
-judged-causes : (s : State) (client : ℕ) (source : List ℕ) (found : Option Sum) → verdict source ≡ found → length s.book < 16384 →
+judged-causes : (s : State) (client : ℕ) (source : List ℕ) (found : Verdict) → IsUtf8 source → verdict source ≡ found → length s.book < 16384 →
     CausesOfSubmit s source (judged s client source found).reply.body
-judged-causes s client source None found few = record {
+judged-causes s client source (Rejected ds) utf8 found few = record {
   records = (λ a. (cc), λ many. absurd (omega arith));
-  rejected = (λ a. (few, spells-none source found), λ c. refl);
-  threads = (λ a. (cc), λ c. absurd (spells-none source found c.1));
-  accepted = (λ a. let e : None ≡ Some (length s.world.runs + 1) = ap run_of a in (cc), λ c. absurd (spells-none source found c.1));
+  rejected = λ others. (
+    λ a. let same : ds ≡ others = ap diagnostics_of a in (few, rejected_because source others utf8 (found ∙ ap Rejected same)),
+    λ c. rejected-same source (length s.book + 1) ds others found c.1,
+  );
+  threads = (λ a. (cc), λ c. absurd (not_both source ds found c.1));
+  accepted = (λ a. let e : None ≡ Some (length s.world.runs + 1) = ap run_of a in (cc), λ c. absurd (not_both source ds found c.1));
 }
-judged-causes s client source (Some sum) found few = from (nat_le 256 (alive_count s)) refl
+judged-causes s client source (Accepted sum) utf8 found few = from (nat_le 256 (alive_count s)) refl
   where
-    spells : SpellsSum source
-    spells = spells-some source sum found
+    is_sum : IsSum source
+    is_sum = (sum, accepted_because source sum found)
 
     from : (full : Bool) → nat_le 256 (alive_count s) ≡ full →
         CausesOfSubmit s source (cond full (refuses s (refusal.Limit limit.Threads 256)) (accepted s client source sum)).reply.body
@@ -71,21 +99,24 @@ judged-causes s client source (Some sum) found few = from (nat_le 256 (alive_cou
         let many : 256 ≤ alive_count s = leb-true 256 (alive_count s) e in
         record {
           records = (λ a. (cc), λ full. absurd (omega arith));
-          rejected = (λ a. (cc), λ c. absurd (c.1 spells));
-          threads = (λ a. (few, spells, many), λ c. refl);
+          rejected = λ ds. (λ a. (cc), λ c. absurd (not_rejected source sum ds found c.1));
+          threads = (λ a. (few, is_sum, many), λ c. refl);
           accepted = (λ a. (cc), λ c. let room : alive_count s < 256 = c.2 in absurd (omega arith));
         }
     from false e =
         let room : alive_count s < 256 = leb-false 256 (alive_count s) e in
         record {
           records = (λ a. (cc), λ full. absurd (omega arith));
-          rejected = (λ a. let e : Some (length s.world.runs + 1) ≡ None = ap run_of a in (cc), λ c. absurd (c.1 spells));
+          rejected = λ ds. (
+            λ a. let e : Some (length s.world.runs + 1) ≡ None = ap run_of a in (cc),
+            λ c. absurd (not_rejected source sum ds found c.1),
+          );
           threads = (λ a. (cc), λ c. let many : 256 ≤ alive_count s = c.2 in absurd (omega arith));
-          accepted = (λ a. (few, spells, room), λ c. refl);
+          accepted = (λ a. (few, is_sum, room), λ c. refl);
         }
 
-submit-causes : (s : State) (client : ℕ) (source : List ℕ) → CausesOfSubmit s source (submitted s client source).reply.body
-submit-causes s client source = from (nat_le 16384 (length s.book)) refl
+submit-causes : (s : State) (client : ℕ) (source : List ℕ) → IsUtf8 source → CausesOfSubmit s source (submitted s client source).reply.body
+submit-causes s client source utf8 = from (nat_le 16384 (length s.book)) refl
   where
     from : (full : Bool) → nat_le 16384 (length s.book) ≡ full →
         CausesOfSubmit s source (cond full (refuses s (refusal.Limit limit.Records 16384)) (judged s client source (verdict source))).reply.body
@@ -93,11 +124,11 @@ submit-causes s client source = from (nat_le 16384 (length s.book)) refl
         let many : 16384 ≤ length s.book = leb-true 16384 (length s.book) e in
         record {
           records = (λ a. many, λ c. refl);
-          rejected = (λ a. (cc), λ c. let few : length s.book < 16384 = c.0 in absurd (omega arith));
+          rejected = λ ds. (λ a. (cc), λ c. let few : length s.book < 16384 = c.0 in absurd (omega arith));
           threads = (λ a. (cc), λ c. let few : length s.book < 16384 = c.0 in absurd (omega arith));
           accepted = (λ a. (cc), λ c. let few : length s.book < 16384 = c.0 in absurd (omega arith));
         }
-    from false e = judged-causes s client source (verdict source) refl (leb-false 16384 (length s.book) e)
+    from false e = judged-causes s client source (verdict source) utf8 refl (leb-false 16384 (length s.book) e)
 
 world_after-zero : (book : List Record) (thread : ℕ) (w : World) → world_after book thread 0 w ≡ w
 unfolding world_after
@@ -291,28 +322,34 @@ found-causes s client number (Some run) found = from run.gone (run.owner == clie
 collect-causes : (s : State) (client number : ℕ) → CausesOfCollect s client number (collect s client number).reply.body
 collect-causes s client number = found-causes s client number (numbered s.world.runs number) refl
 
+-- the source that an act hands in is UTF-8
+abbrev pub HandsInUtf8 : Act → Type 0
+HandsInUtf8 (act.Submit source) = IsUtf8 source
+HandsInUtf8 _ = Unit {0}
+
 -- what an allowed act is answered has its cause
-act-causes : (history : List Entry) (client : ℕ) (asked : Act) → MayDo history client asked →
+act-causes : (history : List Entry) (client : ℕ) (asked : Act) → HandsInUtf8 asked → MayDo history client asked →
     CausesOfAct (state_of history) client asked (act_step (state_of history) client asked).reply.body
 unfolding CausesOfAct
-act-causes history client act.Enter may = enter-causes (state_of history)
-act-causes history client (act.Submit source) may = submit-causes (state_of history) client source
-act-causes history client (act.Turn thread steps) may = turn-causes (state_of history) thread steps may.1
-act-causes history client (act.Collect run) may = collect-causes (state_of history) client run
-act-causes history client (act.Expire run steps) may = absurd may
-act-causes history client (act.Stop run) may = absurd may
-act-causes history client (act.Drop target) may = absurd may
-act-causes history client (act.Ask question) may = absurd may
-act-causes history client act.Reset may = absurd may
-act-causes history client act.Leave may = refl
-act-causes history client act.Close may = refl
+act-causes history client act.Enter utf8 may = enter-causes (state_of history)
+act-causes history client (act.Submit source) utf8 may = submit-causes (state_of history) client source utf8
+act-causes history client (act.Turn thread steps) utf8 may = turn-causes (state_of history) thread steps may.1
+act-causes history client (act.Collect run) utf8 may = collect-causes (state_of history) client run
+act-causes history client (act.Expire run steps) utf8 may = absurd may
+act-causes history client (act.Stop run) utf8 may = absurd may
+act-causes history client (act.Drop target) utf8 may = absurd may
+act-causes history client (act.Ask (question.Invalid line)) utf8 may = refl
+act-causes history client (act.Ask _) utf8 may = absurd may
+act-causes history client act.Reset utf8 may = absurd may
+act-causes history client act.Leave utf8 may = refl
+act-causes history client act.Close utf8 may = refl
 
 -- a reply that is that of the step has its cause
 pub reply-causes : (history : List Entry) (entry : Entry) (asked : Act) (result : Result Reply NoMemory) → entry.act ≡ asked → Allows history entry →
-    IfOk result (λ reply. reply ≡ (step (state_of history) (record { client = entry.client; act = asked })).reply) →
+    HandsInUtf8 asked → IfOk result (λ reply. reply ≡ (step (state_of history) (record { client = entry.client; act = asked })).reply) →
     IfOk result (λ reply. AnswerHasCause (state_of history) entry reply.body)
-reply-causes history entry asked (Ok reply) is allowed same =
+reply-causes history entry asked (Ok reply) is allowed utf8 same =
     let whole : reply ≡ (step (state_of history) entry).reply =
     same ∙ ap (λ (a : Act). (act_step (state_of history) entry.client a).reply) (sym is) in
-    subst (λ (r : Reply). AnswerHasCause (state_of history) entry r.body) (sym whole) (act-causes history entry.client entry.act allowed.may)
-reply-causes history entry asked (Err error) is allowed same = tt
+    subst (λ (r : Reply). AnswerHasCause (state_of history) entry r.body) (sym whole) (act-causes history entry.client entry.act (subst (λ (a : Act). HandsInUtf8 a) (sym is) utf8) allowed.may)
+reply-causes history entry asked (Err error) is allowed utf8 same = tt

@@ -4,6 +4,7 @@ use Rattle.std.specs.List.{slice_get}
 use Rattle.std.specs.Option.{option_map_or}
 use Rattle.std.specs.Fmt.{signed_decimal}
 use Rattle.jsh_tree.specs.declared.tree.Sum.{Sum}
+use Rattle.jsh_tree.specs.declared.diagnostic.Diagnostic.{Diagnostic}
 use Rattle.jsh_text.specs.declared.value.Value.TheVariants as value
 use Rattle.jsh_snippet.specs.declared.records.Record.{Record}
 use Rattle.jsh_sched.specs.declared.ThreadState.TheVariants as thread_state
@@ -19,7 +20,10 @@ use Rattle.jsh_snippet.specs.declared.replies.Refusal.{Refusal}
 use Rattle.jsh_snippet.specs.declared.replies.Refusal.TheVariants as refusal
 use Rattle.jsh_snippet.specs.declared.replies.LimitKind.TheVariants as limit
 use Rattle.jsh_core.specs.State.{State, World, Stepped, numbered, refuses}
-use Rattle.jsh_core.specs.Snippets.{accepted, accepted_record, rejected, judged, submitted, verdict, alive_count, temporary_name, run_of}
+use Rattle.jsh_verdict.specs.declared.verdict.Verdict.{Verdict}
+use Rattle.jsh_verdict.specs.declared.verdict.Verdict.TheVariants.{Accepted, Rejected}
+use Rattle.jsh_verdict.specs.Verdict.{verdict}
+use Rattle.jsh_core.specs.Snippets.{accepted, accepted_record, rejected, judged, submitted, alive_count, temporary_name, run_of}
 use Rattle.jsh_core.specs.Runs.{collect, collect_run, own_run}
 use Rattle.jsh_core.proofs.WorldLemmas.{numbered-push}
 use Rattle.jsh_core.specs.Threads.{can_go_on, stepped, turned, performed, sum_of}
@@ -152,8 +156,9 @@ pub record IsAnswered (s : State) (client : ℕ) (after : Stepped) : Type 0 wher
 refused-answered : (s : State) (client : ℕ) (why : Refusal) → length s.world.states ≡ length s.world.threads → IsAnswered s client (refuses s why)
 refused-answered s client why fits = record { fresh = λ run e. cc; clients = refl; states = fits; grows = omega arith; newer = λ run e. cc }
 
-rejected-answered : (s : State) (client : ℕ) (source : List ℕ) → length s.world.states ≡ length s.world.threads → IsAnswered s client (rejected s source)
-rejected-answered s client source fits = record { fresh = λ run e. cc; clients = refl; states = fits; grows = omega arith; newer = λ run e. cc }
+rejected-answered : (s : State) (client : ℕ) (source : List ℕ) (ds : List Diagnostic) → length s.world.states ≡ length s.world.threads →
+    IsAnswered s client (rejected s source ds)
+rejected-answered s client source ds fits = record { fresh = λ run e. cc; clients = refl; states = fits; grows = omega arith; newer = λ run e. cc }
 
 accepted-answered : (s : State) (client : ℕ) (source : List ℕ) (sum : Sum) → length s.world.states ≡ length s.world.threads → IsAnswered s client (accepted s client source sum)
 accepted-answered s client source sum fits = record {
@@ -165,9 +170,9 @@ accepted-answered s client source sum fits = record {
   newer = λ run e. simp length-append (omega arith);
 }
 
-judged-answered : (s : State) (client : ℕ) (source : List ℕ) (found : Option Sum) → length s.world.states ≡ length s.world.threads → IsAnswered s client (judged s client source found)
-judged-answered s client source None fits = rejected-answered s client source fits
-judged-answered s client source (Some sum) fits = from (nat_le 256 (alive_count s))
+judged-answered : (s : State) (client : ℕ) (source : List ℕ) (found : Verdict) → length s.world.states ≡ length s.world.threads → IsAnswered s client (judged s client source found)
+judged-answered s client source (Rejected ds) fits = rejected-answered s client source ds fits
+judged-answered s client source (Accepted sum) fits = from (nat_le 256 (alive_count s))
   where
     from : (full : Bool) → IsAnswered s client (cond full (refuses s (refusal.Limit limit.Threads 256)) (accepted s client source sum))
     from true = refused-answered s client _ fits

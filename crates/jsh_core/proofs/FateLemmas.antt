@@ -11,12 +11,15 @@ use Rattle.jsh_snippet.specs.declared.records.Record.{Record}
 use Rattle.jsh_snippet.specs.declared.replies.ReplyBody.TheVariants as body
 use Rattle.jsh_snippet.specs.declared.replies.Refusal.TheVariants as refusal
 use Rattle.jsh_snippet.specs.declared.replies.LimitKind.TheVariants as limit
+use Rattle.jsh_verdict.specs.declared.verdict.Verdict.{Verdict}
+use Rattle.jsh_verdict.specs.declared.verdict.Verdict.TheVariants.{Accepted, Rejected}
+use Rattle.jsh_verdict.specs.Verdict.{verdict}
 use Rattle.jsh_core.specs.declared.world.Thread.{Thread}
 use Rattle.jsh_core.specs.declared.world.Frame.{Frame}
 use Rattle.jsh_core.specs.declared.world.Run.{Run}
 use Rattle.jsh_core.specs.declared.world.RunView.{RunView}
 use Rattle.jsh_core.specs.State.{State, Stepped, World, answer, numbered, opening, refuses}
-use Rattle.jsh_core.specs.Snippets.{accepted, alive_count, judged, run_of, submitted, verdict}
+use Rattle.jsh_core.specs.Snippets.{accepted, alive_count, judged, run_of, submitted}
 use Rattle.jsh_core.specs.Threads.{Next, body_step, can_go_on, frame_step, next, performed, stepped, sum_of, thread_step, turned, Turned}
 use Rattle.jsh_core.specs.Threads.Next.{Sets, Returns}
 use Rattle.jsh_core.specs.Runs.{collect_run, dropped, handed_out, is_thread_alive, own_run, returned_text, run_view, standing, view_of}
@@ -272,9 +275,9 @@ submit-fate s client source owner number taken untaken = from (nat_le 16384 (len
     below true sum = quiet _ _ owner number taken _ refl untaken (λ m. let e : None ≡ Some number = m.1 in cc)
     below false sum = made-fate s.world.runs client (length s.world.threads + 1) (length s.book + 1) owner number taken untaken
 
-    of : (found : Option Sum) → Fate s.world.runs (judged s client source found).state.world.runs owner number taken (Made client owner number (judged s client source found))
-    of None = quiet _ _ owner number taken _ refl untaken (λ m. let e : None ≡ Some number = m.1 in cc)
-    of (Some sum) = below (nat_le 256 (alive_count s)) sum
+    of : (found : Verdict) → Fate s.world.runs (judged s client source found).state.world.runs owner number taken (Made client owner number (judged s client source found))
+    of (Rejected ds) = quiet _ _ owner number taken _ refl untaken (λ m. let e : None ≡ Some number = m.1 in cc)
+    of (Accepted sum) = below (nat_le 256 (alive_count s)) sum
 
     from : (full : Bool) → Fate s.world.runs (cond full (refuses s (refusal.Limit limit.Records 16384)) (judged s client source (verdict source))).state.world.runs owner number taken
         (Made client owner number (cond full (refuses s (refusal.Limit limit.Records 16384)) (judged s client source (verdict source))))

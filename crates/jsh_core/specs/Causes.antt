@@ -1,9 +1,12 @@
 -- The causes of the answers, both ways: what stands before an act, and what is answered to it.
-use Rattle.std.specs.Prelude.{◌≡◌, ◌≢◌, ◌↔◌, ℕ, zero, suc, ◌+◌, ◌<◌, ◌≤◌, true, false, List, length, None, Some}
+use Rattle.std.specs.Prelude.{◌≡◌, ◌≢◌, ◌↔◌, ℕ, zero, suc, ◌+◌, ◌<◌, ◌≤◌, true, false, List, [], ◌∷◌, length, None, Some}
 use Rattle.jsh_tree.specs.declared.tree.Sum.{Sum}
+use Rattle.jsh_tree.specs.declared.diagnostic.Diagnostic.{Diagnostic}
 use Rattle.jsh_snippet.specs.declared.acts.Act.{Act}
 use Rattle.jsh_snippet.specs.declared.acts.Act.TheVariants as act
 use Rattle.jsh_snippet.specs.declared.acts.Entry.{Entry}
+use Rattle.jsh_snippet.specs.declared.acts.Question.{Question}
+use Rattle.jsh_snippet.specs.declared.acts.Question.TheVariants as question
 use Rattle.jsh_snippet.specs.declared.records.Record.{Record}
 use Rattle.jsh_snippet.specs.declared.replies.ReplyBody.{ReplyBody}
 use Rattle.jsh_snippet.specs.declared.replies.ReplyBody.TheVariants as body
@@ -11,13 +14,14 @@ use Rattle.jsh_snippet.specs.declared.replies.Collected.TheVariants as «collect
 use Rattle.jsh_snippet.specs.declared.replies.Outcome.TheVariants as outcome
 use Rattle.jsh_snippet.specs.declared.replies.Refusal.TheVariants as refusal
 use Rattle.jsh_snippet.specs.declared.replies.LimitKind.TheVariants as limit
-use Rattle.jsh_sum.specs.Sum.{Spells}
+use Rattle.jsh_verdict.specs.Causes.{IsAccepted, IsRejected}
 use Rattle.jsh_core.specs.declared.world.Run.{Run}
 use Rattle.jsh_core.specs.declared.world.RunView.{RunView}
 use Rattle.jsh_core.specs.State.{State, World, numbered}
 use Rattle.jsh_core.specs.Snippets.{accepted_reply, rejected_reply, alive_count, temporary_name}
 use Rattle.jsh_core.specs.Threads.{can_go_on, stepped}
 use Rattle.jsh_core.specs.Runs.{returned_text, run_view, steps_so_far}
+use Rattle.jsh_core.specs.Questions.{invalid_line}
 use Rattle.jsh_core.specs.Step.{step}
 
 -- a client is numbered below the limit alone
@@ -25,18 +29,19 @@ pub record CausesOfEnter (s : State) (answered : ReplyBody) : Type 0 where
   pub entered : (answered ≡ body.Entered (length s.clients)) ↔ (length s.clients < 64)
   pub clients : (answered ≡ body.Refused (refusal.Limit limit.Clients 64)) ↔ (64 ≤ length s.clients)
 
--- the text spells some sum
-abbrev pub SpellsSum : List ℕ → Type 0
-SpellsSum source = (sum : Sum) × Spells sum source
+-- the source is accepted with some sum
+abbrev pub IsSum : List ℕ → Type 0
+IsSum source = (sum : Sum) × IsAccepted source sum
 
--- a snippet is accepted where it is a sum and stands below both limits
+-- a snippet is accepted where it is a sum and stands below both limits, and is rejected with what is wrong with it
 pub record CausesOfSubmit (s : State) (source : List ℕ) (answered : ReplyBody) : Type 0 where
   pub records : (answered ≡ body.Refused (refusal.Limit limit.Records 16384)) ↔ (16384 ≤ length s.book)
-  pub rejected : (answered ≡ body.Submitted (rejected_reply (length s.book + 1))) ↔ ((length s.book < 16384) × (¬ SpellsSum source))
+  pub rejected : (ds : List Diagnostic) →
+      (answered ≡ body.Submitted (rejected_reply (length s.book + 1) ds)) ↔ ((length s.book < 16384) × IsRejected source ds)
   pub threads : (answered ≡ body.Refused (refusal.Limit limit.Threads 256))
-      ↔ ((length s.book < 16384) × SpellsSum source × (256 ≤ alive_count s))
+      ↔ ((length s.book < 16384) × IsSum source × (256 ≤ alive_count s))
   pub accepted : (answered ≡ body.Submitted (accepted_reply (length s.book + 1) (length s.world.runs + 1)))
-      ↔ ((length s.book < 16384) × SpellsSum source × (alive_count s < 256))
+      ↔ ((length s.book < 16384) × IsSum source × (alive_count s < 256))
 
 -- the world after so many visible steps of a thread
 unfoldable pub world_after : List Record → ℕ → ℕ → World → World
@@ -78,6 +83,11 @@ pub record CausesOfCollect (s : State) (client number : ℕ) (answered : ReplyBo
   pub over : (id : ℕ) → (text : List ℕ) → (answered ≡ body.Collected («collected».Over id (temporary_name id) (outcome.Value text)))
       ↔ ((run : Run) × IsOwnRun s client number run × (returned_text s.world run ≡ Some text) × (run.snippet ≡ id))
 
+-- a question is answered, whatever stands. The others than that about a line that is no command aren't built yet.
+abbrev pub CausesOfAsk : Question → ReplyBody → Type 0
+CausesOfAsk (question.Invalid line) answered = answered ≡ body.Answered (invalid_line line ∷ [])
+CausesOfAsk _ answered = ⊥
+
 -- Each answer to this act has its own cause. An act that isn't built yet stands in no history and has none.
 unfoldable pub CausesOfAct : State → ℕ → Act → ReplyBody → Type 0
 CausesOfAct s client act.Enter answered = CausesOfEnter s answered
@@ -88,7 +98,7 @@ CausesOfAct s client (act.Collect run) answered = CausesOfCollect s client run a
 CausesOfAct s client (act.Expire run steps) answered = ⊥
 CausesOfAct s client (act.Stop run) answered = ⊥
 CausesOfAct s client (act.Drop target) answered = ⊥
-CausesOfAct s client (act.Ask question) answered = ⊥
+CausesOfAct s client (act.Ask question) answered = CausesOfAsk question answered
 CausesOfAct s client act.Reset answered = ⊥
 CausesOfAct s client act.Leave answered = answered ≡ body.Left
 CausesOfAct s client act.Close answered = answered ≡ body.Closed

@@ -4,9 +4,11 @@ use Rattle.std.specs.List.{list_any}
 use Rattle.jsh_snippet.specs.declared.acts.Act.{Act}
 use Rattle.jsh_snippet.specs.declared.acts.Act.TheVariants as act
 use Rattle.jsh_snippet.specs.declared.acts.Entry.{Entry}
+use Rattle.jsh_snippet.specs.declared.acts.Question.TheVariants as question
 use Rattle.jsh_snippet.specs.declared.replies.Reply.{Reply}
 use Rattle.jsh_core.specs.State.{State, opening}
 use Rattle.jsh_core.specs.Step.{step}
+use Rattle.jsh_core.specs.Questions.{question_bytes}
 
 -- the state after these entries
 abbrev pub state_after : State → List Entry → State
@@ -25,9 +27,10 @@ replies_after s (entry ∷ entries) = (step s entry).reply ∷ replies_after (st
 abbrev pub replies_of : List Entry → List Reply
 replies_of history = replies_after opening history
 
--- the bytes of source that an act has
+-- the bytes of source that an act has, those of a question's text among them
 abbrev pub act_bytes : Act → ℕ
 act_bytes (act.Submit source) = length source
+act_bytes (act.Ask question) = question_bytes question
 act_bytes _ = 0
 
 abbrev pub source_bytes : List Entry → ℕ
@@ -45,13 +48,18 @@ closed_at history = position (λ (entry : Entry). is_close entry.act) history
 abbrev pub HasRoom : List Entry → Type 0
 HasRoom history = length history < 4194304
 
+-- a history has room for an entry with this text
+abbrev pub HasRoomFor : List Entry → List ℕ → Type 0
+HasRoomFor history text =
+    HasRoom history × (length text ≤ 65536) × (source_bytes history + length text ≤ 67108864)
+
 -- the acts that a client may do after a history
 abbrev pub MayDo : List Entry → ℕ → Act → Type 0
 MayDo history client act.Enter = HasRoom history
-MayDo history client (act.Submit source) =
-    HasRoom history × (length source ≤ 256) × (source_bytes history + length source ≤ 67108864)
+MayDo history client (act.Submit source) = HasRoomFor history source
 MayDo history client (act.Turn thread steps) = HasRoom history × (1 ≤ steps) × (steps ≤ 256)
 MayDo history client (act.Collect run) = HasRoom history
+MayDo history client (act.Ask (question.Invalid text)) = HasRoomFor history text
 MayDo history client act.Leave = Unit {0}
 MayDo history client act.Close = client ≡ 0
 MayDo history client _ = ⊥

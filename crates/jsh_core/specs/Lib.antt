@@ -4,6 +4,7 @@ pub mod Snippets
 pub mod Threads
 pub mod Runs
 pub mod Clients
+pub mod Questions
 pub mod Step
 pub mod Causes
 pub mod Fates

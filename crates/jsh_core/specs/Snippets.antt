@@ -2,7 +2,6 @@
 use Rattle.std.specs.Prelude.{ℕ, ◌+◌, List, [], ◌∷◌, ◌++◌, Option, None, Some, length, true, false, if◌then◌else◌, nat_le, pos, codes, decimal}
 use Rattle.std.specs.List.{count_by}
 use Rattle.jsh_tree.specs.declared.tree.Sum.{Sum}
-use Rattle.jsh_tree.specs.declared.diagnostic.Code.TheVariants as code
 use Rattle.jsh_tree.specs.declared.diagnostic.Diagnostic.{Diagnostic}
 use Rattle.jsh_text.specs.declared.value.Value.TheVariants as value
 use Rattle.jsh_snippet.specs.declared.kinds.Kind.TheVariants as kind
@@ -18,12 +17,10 @@ use Rattle.jsh_snippet.specs.declared.replies.Refusal.TheVariants as refusal
 use Rattle.jsh_snippet.specs.declared.replies.LimitKind.TheVariants as limit
 use Rattle.jsh_sched.specs.declared.ThreadState.TheVariants as thread_state
 use Rattle.jsh_sched.specs.ThreadState.{is_alive}
-use Rattle.jsh_sum.specs.Reading.{sum_of}
+use Rattle.jsh_verdict.specs.declared.verdict.Verdict.{Verdict}
+use Rattle.jsh_verdict.specs.declared.verdict.Verdict.TheVariants.{Accepted, Rejected}
+use Rattle.jsh_verdict.specs.Verdict.{verdict}
 use Rattle.jsh_core.specs.State.{State, Stepped, answer, refuses}
-
--- the sum of a source that is accepted, and None for one that is rejected: sums alone are in the language so far
-abbrev pub verdict : List ℕ → Option Sum
-verdict source = sum_of source
 
 -- the record of a snippet that is accepted, a temporary variable of type int
 abbrev pub accepted_record : ℕ → List ℕ → Sum → Record
@@ -83,34 +80,31 @@ accepted_reply id run = record {
   value = None;
 }
 
--- a source that isn't in the language yet has this one diagnostic
-abbrev pub not_yet : Diagnostic
-not_yet = record { code = code.NotYet; place = 0; name = None }
-
-abbrev pub rejected_reply : ℕ → Submitted
-rejected_reply id = record {
+-- the answer for a snippet that is rejected with these diagnostics
+abbrev pub rejected_reply : ℕ → List Diagnostic → Submitted
+rejected_reply id diagnostics = record {
   id = id;
   kind = kind.Erroneous;
   subkind = subkind.Unknown;
   name = [];
   events = rejected_event id ∷ [];
   ignored = [];
-  diagnostics = not_yet ∷ [];
+  diagnostics = diagnostics;
   unresolved = [];
   run = None;
   value = None;
 }
 
 -- a rejected snippet leaves a record and nothing else
-abbrev pub rejected : State → List ℕ → Stepped
-rejected s source =
+abbrev pub rejected : State → List ℕ → List Diagnostic → Stepped
+rejected s source diagnostics =
     let id = length s.book + 1 in
     record {
       state = record s {
         book = s.book ++ rejected_record id source ∷ [];
         world = record s.world { cells = s.world.cells ++ None ∷ [] };
       };
-      reply = answer (body.Submitted (rejected_reply id));
+      reply = answer (body.Submitted (rejected_reply id diagnostics));
     }
 
 -- an accepted one publishes a generation, and has a variable and a run, whose main thread is new
@@ -147,9 +141,9 @@ abbrev pub accepted_below_limit : State → ℕ → List ℕ → Sum → Stepped
 accepted_below_limit s client source sum =
     if nat_le 256 (alive_count s) then refuses s (refusal.Limit limit.Threads 256) else accepted s client source sum
 
-abbrev pub judged : State → ℕ → List ℕ → Option Sum → Stepped
-judged s client source None = rejected s source
-judged s client source (Some sum) = accepted_below_limit s client source sum
+abbrev pub judged : State → ℕ → List ℕ → Verdict → Stepped
+judged s client source (Accepted sum) = accepted_below_limit s client source sum
+judged s client source (Rejected diagnostics) = rejected s source diagnostics
 
 -- a snippet that is handed in: there is a limit of records, and for one that is accepted a limit of alive threads
 abbrev pub submitted : State → ℕ → List ℕ → Stepped

@@ -11,6 +11,7 @@ use Rattle.jsh_core.specs.Snippets.{submitted}
 use Rattle.jsh_core.specs.Threads.{turn}
 use Rattle.jsh_core.specs.Runs.{collect}
 use Rattle.jsh_core.specs.Clients.{enter, leave, close}
+use Rattle.jsh_core.specs.Questions.{asked}
 
 -- an act that isn't built yet, which stands in no history
 abbrev pub unbuilt : State → Stepped
@@ -25,7 +26,7 @@ act_step s client (act.Collect run) = collect s client run
 act_step s client (act.Expire run steps) = unbuilt s
 act_step s client (act.Stop run) = unbuilt s
 act_step s client (act.Drop target) = unbuilt s
-act_step s client (act.Ask question) = unbuilt s
+act_step s client (act.Ask question) = asked s question
 act_step s client act.Reset = unbuilt s
 act_step s client act.Leave = leave s client
 act_step s client act.Close = close s

@@ -1,6 +1,7 @@
 ghost use Rattle.std.specs.Prelude.{◌≡◌, ◌==◌, if◌then◌else◌, ◌∷◌, ◌++◌, [], length, slice_get, Ok, IfOk, IsOk, OnErr};
 ghost use Rattle.std.specs.Option.{option_copied};
 ghost use Rattle.jsh_snippet.specs.declared.acts.Act.TheVariants as act;
+ghost use Rattle.jsh_snippet.specs.declared.acts.Question.TheVariants as question;
 ghost use Rattle.jsh_core.specs.State.{numbered};
 ghost use Rattle.jsh_core.specs.Step.{kept, step};
 ghost use Rattle.jsh_core.specs.Runs.{run_view};
@@ -8,12 +9,13 @@ ghost use Rattle.jsh_core.specs.Runs.{run_view};
 use crate::clients::{dismiss_client, number_client};
 use crate::lists::push_reserved;
 use crate::parts::{Parts, WorldParts};
+use crate::questions::answer_invalid;
 use crate::runs::{collect_run, view_run};
 use crate::snippets::{answer_of, submit};
 use crate::turns::turn;
 use crate::world::RunView;
 use jsh_sched::ThreadState;
-use jsh_snippet::{Act, Entry, Reply, ReplyBody};
+use jsh_snippet::{Act, Entry, Question, Reply, ReplyBody};
 use jsh_steps::Steps;
 use jsh_text::NoMemory;
 use jsh_tree::SrcText;
@@ -58,7 +60,9 @@ impl Model for Core {
 impl Core {
     ghost use Rattle.std.specs.Prelude.{◌≡◌, ◌↔◌, ℕ, ◌∷◌, ◌++◌, [], length, slice_get, IfOk, IsOk, OnErr};
     ghost use Rattle.std.specs.Option.{option_copied, option_map};
+    ghost use Rattle.std.specs.Str.{IsUtf8};
     ghost use Rattle.jsh_snippet.specs.declared.acts.Act.TheVariants as act;
+    ghost use Rattle.jsh_snippet.specs.declared.acts.Question.TheVariants as question;
     ghost use Rattle.jsh_core.specs.declared.world.RunView.{RunView};
     ghost use Rattle.jsh_core.specs.Step.{kept, step};
     ghost use Rattle.jsh_core.specs.Runs.{run_view};
@@ -119,13 +123,21 @@ impl Core {
             Act::Submit { source } => self.apply_submit(alloc, client, source),
             Act::Turn { thread, steps } => self.apply_turn(alloc, client, thread, steps),
             Act::Collect { run } => self.apply_collect(alloc, client, run),
+            Act::Ask { question } => match question {
+                Question::Invalid(line) => self.apply_invalid(alloc, client, line),
+                Question::List
+                | Question::ListAll
+                | Question::Vars
+                | Question::Methods
+                | Question::Types
+                | Question::Imports
+                | Question::Threads
+                | Question::Help
+                | Question::Complete(_) => unreachable!(),
+            },
             Act::Leave => Ok(self.apply_leave(alloc, client)),
             Act::Close => Ok(self.apply_close(alloc, client)),
-            Act::Expire { .. }
-            | Act::Stop { .. }
-            | Act::Drop { .. }
-            | Act::Ask { .. }
-            | Act::Reset => unreachable!(),
+            Act::Expire { .. } | Act::Stop { .. } | Act::Drop { .. } | Act::Reset => unreachable!(),
         }
     }
 
@@ -153,12 +165,14 @@ impl Core {
     ) -> Result<Reply, NoMemory>
         requires { Allows self.old (record { client = client; act = act.Submit source }) }
         ensures reply { IfOk result (λ reply. reply ≡ (step (state_of self.old) (record { client = client; act = act.Submit source })).reply) }
+        ensures utf8 { IsUtf8 source }
         ensures history { IfOk result (λ reply. self.new ≡ self.old ++ record { client = client; act = act.Submit source } ∷ []) }
         ensures err { OnErr result (self.new ≡ self.old) }
     {
+        let length = source.as_str().len() as u64;
         self.history.reserve(LAST_ENTRIES)?;
         let reply = submit(&mut self.parts, alloc, client, &source)?;
-        self.bytes += source.as_str().len() as u64;
+        self.bytes += length;
         let entry = Entry {
             client,
             act: Act::Submit { source },
@@ -226,6 +240,31 @@ impl Core {
         let entry = Entry {
             client,
             act: Act::Collect { run },
+        };
+        push_reserved(&mut self.history, entry);
+        Ok(reply)
+    }
+
+    fn apply_invalid(
+        &mut self,
+        alloc: Global,
+        client: u32,
+        line: SrcText,
+    ) -> Result<Reply, NoMemory>
+        requires { Allows self.old (record { client = client; act = act.Ask (question.Invalid line) }) }
+        ensures reply { IfOk result (λ reply. reply ≡ (step (state_of self.old) (record { client = client; act = act.Ask (question.Invalid line) })).reply) }
+        ensures history { IfOk result (λ reply. self.new ≡ self.old ++ record { client = client; act = act.Ask (question.Invalid line) } ∷ []) }
+        ensures err { OnErr result (self.new ≡ self.old) }
+    {
+        self.history.reserve(LAST_ENTRIES)?;
+        let text = line.as_str();
+        let reply = answer_invalid(alloc, text)?;
+        self.bytes += text.len() as u64;
+        let entry = Entry {
+            client,
+            act: Act::Ask {
+                question: Question::Invalid(line),
+            },
         };
         push_reserved(&mut self.history, entry);
         Ok(reply)

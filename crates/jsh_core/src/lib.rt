@@ -5,6 +5,7 @@ mod clients;
 mod engine;
 mod lists;
 mod parts;
+mod questions;
 mod runs;
 mod snippets;
 mod turns;

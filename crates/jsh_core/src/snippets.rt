@@ -1,6 +1,6 @@
-ghost use Rattle.std.specs.Prelude.{◌≡◌, ℕ, ◌+◌, ◌∷◌, [], ◌<◌, ◌≤◌, ◌^◌, length, codes, Some, IfOk, OnErr};
+ghost use Rattle.std.specs.Prelude.{◌≡◌, ℕ, ◌+◌, ◌∷◌, [], ◌<◌, ◌^◌, length, codes, Some, IfOk, OnErr};
 ghost use Rattle.jsh_core.specs.State.{answer};
-ghost use Rattle.jsh_core.specs.Snippets.{accepted, accepted_event, accepted_record, accepted_reply, not_yet, rejected, rejected_event, rejected_record, rejected_reply, submitted, temporary_name};
+ghost use Rattle.jsh_core.specs.Snippets.{accepted, accepted_event, accepted_record, accepted_reply, rejected, rejected_event, rejected_record, rejected_reply, submitted, temporary_name};
 ghost use Rattle.jsh_core.specs.Parts.{state_from, IsSound, StepsAtMost};
 ghost use Rattle.jsh_snippet.specs.declared.replies.ReplyBody.TheVariants as body;
 
@@ -9,9 +9,9 @@ use crate::parts::{Parts, add_run, reserve_run};
 use jsh_snippet::{
     Event, Fate, Kind, LimitKind, Record, Refusal, Reply, ReplyBody, Status, Subkind, Submitted,
 };
-use jsh_sum::parse_sum;
 use jsh_text::{NoMemory, UText, print_unsigned};
-use jsh_tree::{Code, Diagnostic, Name, Seq, SrcText, Sum, TypeWritten};
+use jsh_tree::{Diagnostic, Name, Seq, SrcText, Sum, TypeWritten};
+use jsh_verdict::{Verdict, judge};
 use std::alloc::Global;
 
 /// Records between two resets.
@@ -46,7 +46,8 @@ pub fn refused(alloc: Global, refusal: Refusal) -> Reply
     answer_of(alloc, ReplyBody::Refused(refusal))
 }
 
-fn one<T: Drop>(alloc: Global, item: T) -> Result<Seq<T>, NoMemory>
+/// A list of one item.
+pub fn one<T: Drop>(alloc: Global, item: T) -> Result<Seq<T>, NoMemory>
     ensures { IfOk result (λ seq. seq ≡ item ∷ []) }
 {
     let mut items = Vec::with_capacity(alloc, 1)?;
@@ -135,15 +136,13 @@ fn new_accepted_reply(alloc: Global, id: u32, run: u32) -> Result<Submitted, NoM
     })
 }
 
-fn new_rejected_reply(alloc: Global, id: u32) -> Result<Submitted, NoMemory>
-    ensures { IfOk result (λ reply. reply ≡ rejected_reply id) }
+fn new_rejected_reply(
+    alloc: Global,
+    id: u32,
+    diagnostics: Seq<Diagnostic>,
+) -> Result<Submitted, NoMemory>
+    ensures { IfOk result (λ reply. reply ≡ rejected_reply id diagnostics) }
 {
-    let diagnostic = Diagnostic {
-        code: Code::NotYet,
-        place: 0,
-        name: None,
-    };
-    let diagnostics = one(alloc, diagnostic)?;
     Ok(Submitted {
         id,
         kind: Kind::Erroneous,
@@ -158,17 +157,22 @@ fn new_rejected_reply(alloc: Global, id: u32) -> Result<Submitted, NoMemory>
     })
 }
 
-fn reject(parts: &mut Parts, alloc: Global, source: &SrcText) -> Result<Reply, NoMemory>
+fn reject(
+    parts: &mut Parts,
+    alloc: Global,
+    source: &SrcText,
+    diagnostics: Seq<Diagnostic>,
+) -> Result<Reply, NoMemory>
     requires sound { IsSound parts.old }
     requires room { length parts.old.book.items < 16384 }
-    ensures ok { IfOk result (λ reply. record { state = state_from parts.new; reply = reply } ≡ rejected (state_from parts.old) source.now) }
+    ensures ok { IfOk result (λ reply. record { state = state_from parts.new; reply = reply } ≡ rejected (state_from parts.old) source.now diagnostics) }
     ensures err { OnErr result (state_from parts.new ≡ state_from parts.old) }
     ensures sound { IsSound parts.new }
     ensures steps { (bound : ℕ) → StepsAtMost bound parts.old.world.threads.items → StepsAtMost bound parts.new.world.threads.items }
 {
     let id = parts.book.len() as u32 + 1;
     let record = new_rejected_record(id, source)?;
-    let reply = new_rejected_reply(alloc, id)?;
+    let reply = new_rejected_reply(alloc, id, diagnostics)?;
     parts.book.reserve(1)?;
     parts.world.cells.reserve(1)?;
     push_reserved(&mut parts.book, record);
@@ -212,6 +216,7 @@ pub fn submit(
     source: &SrcText,
 ) -> Result<Reply, NoMemory>
     requires sound { IsSound parts.old }
+    requires short { length source.now < 2 ^ 32 }
     ensures ok { IfOk result (λ reply. record { state = state_from parts.new; reply = reply } ≡ submitted (state_from parts.old) client source.now) }
     ensures err { OnErr result (state_from parts.new ≡ state_from parts.old) }
     ensures sound { IsSound parts.new }
@@ -226,9 +231,9 @@ pub fn submit(
             },
         ));
     }
-    match parse_sum(alloc, source.as_str())? {
-        None => reject(parts, alloc, source),
-        Some(sum) => {
+    match judge(alloc, source.as_str())? {
+        Verdict::Rejected(diagnostics) => reject(parts, alloc, source, diagnostics),
+        Verdict::Accepted(sum) => {
             if parts.world.alive >= MAX_ALIVE_THREADS {
                 return Ok(refused(
                     alloc,

@@ -12,6 +12,7 @@ use Rattle.jsh_snippet.specs.declared.replies.Collected.{Collected}
 use Rattle.jsh_snippet.specs.declared.replies.Collected.TheVariants as «collected»
 use Rattle.jsh_snippet.specs.declared.replies.LimitKind.{LimitKind}
 use Rattle.jsh_snippet.specs.declared.replies.LimitKind.TheVariants as limit
+use Rattle.jsh_snippet.specs.declared.replies.Line.{Line}
 use Rattle.jsh_snippet.specs.declared.replies.Outcome.{Outcome}
 use Rattle.jsh_snippet.specs.declared.replies.Outcome.TheVariants as outcome
 use Rattle.jsh_snippet.specs.declared.replies.Refusal.{Refusal}
@@ -79,10 +80,15 @@ abbrev pub collected_line : Collected → List ℕ
 collected_line («collected».Over id name outcome) = outcome_line name outcome
 collected_line («collected».Running steps) = []
 
+-- a line that answers a question
+abbrev pub answer_line : Line → List ℕ
+answer_line line = utf8 line.text ++ codes "\n"
+
 -- what is written for an act that got this answer. The acts that the engine doesn't do yet have no text yet.
 abbrev pub feedback : Act → ReplyBody → List ℕ
 feedback act (body.Submitted submitted) = flat_map (error_line (source_of act)) submitted.diagnostics
 feedback act (body.Collected collected) = collected_line collected
+feedback act (body.Answered lines) = flat_map answer_line lines
 feedback act (body.Refused refusal) = refusal_line (run_of act) refusal
 feedback act _ = []
 

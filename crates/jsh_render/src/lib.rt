@@ -5,7 +5,7 @@
 
 ghost use Rattle.std.specs.Prelude.{◌≡◌, ◌++◌, IfOk, OnOk};
 ghost use Rattle.std.specs.List.{flat_map};
-ghost use Rattle.jsh_render.specs.Texts.{source_of, run_of, error_line, collected_line, feedback, rendered, shown};
+ghost use Rattle.jsh_render.specs.Texts.{source_of, run_of, error_line, collected_line, answer_line, feedback, rendered, shown};
 
 mod lines;
 mod place;
@@ -13,7 +13,7 @@ mod place;
 mod tests;
 
 use crate::lines::{error_in, refusal_text, value_text};
-use jsh_snippet::{Act, Collected, Entry, Outcome, Reply, ReplyBody};
+use jsh_snippet::{Act, Collected, Entry, Line, Outcome, Reply, ReplyBody};
 use jsh_text::NoMemory;
 use jsh_tree::Diagnostic;
 use std::alloc::Global;
@@ -44,6 +44,7 @@ fn push_feedback(bytes: &mut Vec<u8>, act: &Act, body: &ReplyBody) -> Result<(),
             push_errors(bytes, source(act), submitted.diagnostics.as_slice())
         }
         ReplyBody::Collected(collected) => push_collected(bytes, collected),
+        ReplyBody::Answered(lines) => push_lines(bytes, lines.as_slice()),
         ReplyBody::Refused(refusal) => {
             let text = refusal_text(*bytes.allocator(), run(act), refusal)?;
             push_bytes(bytes, text.as_bytes())
@@ -86,6 +87,23 @@ fn push_collected(bytes: &mut Vec<u8>, collected: &Collected) -> Result<(), NoMe
         }
         _ => Ok(()),
     }
+}
+
+fn push_lines(bytes: &mut Vec<u8>, lines: &[Line]) -> Result<(), NoMemory>
+    ensures { OnOk result (bytes.new.items ≡ bytes.old.items ++ flat_map answer_line lines.now) }
+{
+    for line in lines {
+        push_line(bytes, line)?;
+    }
+    Ok(())
+}
+
+fn push_line(bytes: &mut Vec<u8>, line: &Line) -> Result<(), NoMemory>
+    ensures { OnOk result (bytes.new.items ≡ bytes.old.items ++ answer_line line.now) }
+{
+    let mut text = line.text.to_utf8(*bytes.allocator())?;
+    text.push(b'\n')?;
+    push_bytes(bytes, text.as_slice())
 }
 
 fn push_bytes(bytes: &mut Vec<u8>, more: &[u8]) -> Result<(), NoMemory>

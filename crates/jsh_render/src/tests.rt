@@ -1,7 +1,8 @@
 // Expected texts are in the form of the `jshell` tool's feedback.
 use crate::{render, show};
 use jsh_snippet::{
-    Act, Collected, Entry, Kind, LimitKind, Outcome, Refusal, Reply, ReplyBody, Subkind, Submitted,
+    Act, Collected, Entry, Kind, LimitKind, Line, Outcome, Question, Refusal, Reply, ReplyBody,
+    Subkind, Submitted,
 };
 use jsh_text::{NoMemory, UText};
 use jsh_tree::{Code, Diagnostic, Seq, SrcText};
@@ -148,6 +149,30 @@ fn writes_values(rt: HostRuntime) -> Result<(), Fail> {
         let bytes = rendered(alloc, Act::Collect { run: 1 }, over(alloc, name, value)?)?;
         assert_eq!(rt; bytes.as_slice(), want.as_bytes(), "{want}");
     }
+    Ok(())
+}
+
+fn answered(alloc: Global, lines: &[&str]) -> Result<Vec<u8>, NoMemory> {
+    let mut answer = Vec::new(alloc);
+    for line in lines {
+        let text = UText::from_str(alloc, line)?;
+        answer.push(Line { text })?;
+    }
+    let act = Act::Ask {
+        question: Question::Help,
+    };
+    rendered(alloc, act, ReplyBody::Answered(Seq::from_vec(answer)))
+}
+
+#[test]
+fn writes_lines_of_answers(rt: HostRuntime) -> Result<(), Fail> {
+    let alloc = rt.alloc();
+    let one = answered(alloc, &["|  Invalid command: /foo"])?;
+    assert_eq!(rt; one.as_slice(), b"|  Invalid command: /foo\n".as_slice());
+    let two = answered(alloc, &["/\u{12345} \u{E9}", ""])?;
+    assert_eq!(rt; two.as_slice(), "/\u{12345} \u{E9}\n\n".as_bytes());
+    let none = answered(alloc, &[])?;
+    assert!(rt; none.is_empty());
     Ok(())
 }
 
