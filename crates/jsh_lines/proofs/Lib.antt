@@ -1,4 +1,4 @@
 pub mod Cuts
 pub mod Texts
-pub mod Commands
+pub mod Lengths
 pub mod Rows

@@ -1,6 +1,6 @@
--- Some cuts and commands, computed from their definitions.
+-- Some cuts and lines, computed from their definitions.
 use Rattle.std.proofs.Common.{◌≡◌, true, false, [], ◌∷◌, refl}
-use Rattle.jsh_lines.specs.Lines.{Eval, as_text, commands, cut}
+use Rattle.jsh_lines.specs.Lines.{cut, input_lines}
 
 -- "", "a", "a\n" and "\n"
 cut-nothing : cut [] ≡ record { whole = []; rest = [] }
@@ -22,13 +22,13 @@ cut-lines = refl
 cut-carriage_return : cut (97 ∷ 13 ∷ 10 ∷ []) ≡ record { whole = (97 ∷ 13 ∷ []) ∷ []; rest = [] }
 cut-carriage_return = refl
 
--- "1\n \r\n\n2" before its end and at its end
-commands-so_far : commands (49 ∷ 10 ∷ 32 ∷ 13 ∷ 10 ∷ 10 ∷ 50 ∷ []) false ≡ Eval (as_text (49 ∷ [])) ∷ []
-commands-so_far = refl
+-- "1\n\n2" before its end and at its end
+input_lines-so_far : input_lines (49 ∷ 10 ∷ 10 ∷ 50 ∷ []) false ≡ (49 ∷ []) ∷ [] ∷ []
+input_lines-so_far = refl
 
-commands-ended : commands (49 ∷ 10 ∷ 32 ∷ 13 ∷ 10 ∷ 10 ∷ 50 ∷ []) true ≡ Eval (as_text (49 ∷ [])) ∷ Eval (as_text (50 ∷ [])) ∷ []
-commands-ended = refl
+input_lines-ended : input_lines (49 ∷ 10 ∷ 10 ∷ 50 ∷ []) true ≡ (49 ∷ []) ∷ [] ∷ (50 ∷ []) ∷ []
+input_lines-ended = refl
 
--- "1\n" at its end: the empty rest is blank
-commands-empty_rest : commands (49 ∷ 10 ∷ []) true ≡ Eval (as_text (49 ∷ [])) ∷ []
-commands-empty_rest = refl
+-- "1\n" at its end: the empty rest is no line
+input_lines-empty_rest : input_lines (49 ∷ 10 ∷ []) true ≡ (49 ∷ []) ∷ []
+input_lines-empty_rest = refl

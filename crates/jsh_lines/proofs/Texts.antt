@@ -9,11 +9,11 @@ use Rattle.std.proofs.lemmas.List.{drop_all, take_all, length-take-le}
 use Rattle.std.specs.Char.{encode_utf8}
 use Rattle.jsh_lines.specs.Lines.{as_text, as_text_within}
 
-within_valid : (most : ℕ) (bytes : List ℕ) → utf8_valid_len bytes ≡ length bytes → as_text_within most bytes ≡ bytes
+pub within_valid : (most : ℕ) (bytes : List ℕ) → utf8_valid_len bytes ≡ length bytes → as_text_within most bytes ≡ bytes
 within_valid zero bytes whole = refl
 within_valid (suc most) bytes whole = rw (eq-eqb _ _ whole)
 
-within_fault : (most : ℕ) (bytes : List ℕ) → ¬ (utf8_valid_len bytes ≡ length bytes) →
+pub within_fault : (most : ℕ) (bytes : List ℕ) → ¬ (utf8_valid_len bytes ≡ length bytes) →
     as_text_within (suc most) bytes
     ≡ take (utf8_valid_len bytes) bytes ++ (replacement_bytes ++ as_text_within most (drop (utf8_valid_len bytes + 1) bytes))
 within_fault most bytes faulty = rw (ne_eqb _ _ faulty)

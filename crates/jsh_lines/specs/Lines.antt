@@ -1,5 +1,5 @@
--- How a client's input is cut into lines, how a line is read as text, and which commands the lines are.
-use Rattle.std.specs.Prelude.{◌≡◌, ℕ, zero, suc, ◌+◌, ◌<◌, Bool, false, not, ◌||◌, ◌==◌, List, [], ◌∷◌, ◌++◌, length, take, drop, map, filter, if◌then◌else◌}
+-- How a client's input is cut into lines, and how a line is read as text.
+use Rattle.std.specs.Prelude.{◌≡◌, ℕ, zero, suc, ◌+◌, ◌<◌, Bool, false, ◌||◌, ◌==◌, List, [], ◌∷◌, ◌++◌, length, take, drop, if◌then◌else◌}
 use Rattle.std.specs.List.{list_any, list_all}
 use Rattle.std.specs.Str.Lossy.{utf8_valid_len, replacement_bytes}
 
@@ -54,14 +54,11 @@ as_text_within (suc most) bytes = let valid = utf8_valid_len bytes in
 unfoldable pub as_text : List ℕ → List ℕ
 as_text bytes = as_text_within (length bytes) bytes
 
-pub data Command : Type 0 where
-  -- the snippet with this source is to be evaluated
-  Eval : List ℕ → Command
+-- the rest of an input that has ended, as a line where it has bytes
+abbrev pub last_lines : List ℕ → List (List ℕ)
+last_lines [] = []
+last_lines (byte ∷ bytes) = (byte ∷ bytes) ∷ []
 
--- a snippet for each line that isn't blank
-abbrev pub evals : List (List ℕ) → List Command
-evals lines = map (λ line. Eval (as_text line)) (filter (λ line. not (is_blank line)) lines)
-
--- the commands of an input as far as it has come: its rest is a line only once it has ended
-abbrev pub commands : List ℕ → Bool → List Command
-commands bytes ended = evals ((cut bytes).whole ++ (if ended then (cut bytes).rest ∷ [] else []))
+-- the lines of an input as far as it has come: its rest is a line only once it has ended, and an empty rest is none
+abbrev pub input_lines : List ℕ → Bool → List (List ℕ)
+input_lines bytes ended = (cut bytes).whole ++ (if ended then last_lines (cut bytes).rest else [])

@@ -1,0 +1,72 @@
+-- What one line more gives, case by case.
+use Rattle.std.proofs.Common.{◌≡◌, ℕ, suc, ◌+◌, ◌≤◌, List, [], ◌∷◌, ◌++◌, length, Bool, true, false, refl, sym, ap, subst, ◌∙◌, arith, length-append}
+use Rattle.std.specs.Prelude.{◌||◌, if◌then◌else◌, Result, IfOk}
+use Rattle.std.proofs.lemmas.Result.{IfOk-weaker}
+use Rattle.jsh_cut.specs.declared.command.Command.{Command}
+use Rattle.jsh_cut.specs.declared.command.Command.TheVariants as command
+use Rattle.jsh_cut.specs.declared.held.Held.{Held}
+use Rattle.jsh_cut.specs.declared.held.Held.TheVariants as held
+use Rattle.jsh_cut.specs.declared.held.Gives.{Gives}
+use Rattle.jsh_cut.specs.Commands.{source_of, by_text, with_commands, held_text, is_command_line, is_slash_line, ends_before, text_before, is_exit, trimmed, by_line, by_command, cut_line}
+use Rattle.jsh_lines.specs.Lines.{is_blank}
+use Rattle.jsh_cut.proofs.Cuttings.{held_analyzed}
+
+-- Nothing is held.
+pub line_first : (line : List ℕ) → with_commands [] (by_line line) ≡ cut_line held.Nothing line
+unfolding cut_line
+line_first line = refl
+
+-- What is held ends before the line.
+pub line_ends : (text line : List ℕ) → ends_before line ≡ true → with_commands (command.Eval (source_of text) ∷ []) (by_line line) ≡ cut_line (held.MayEnd text) line
+unfolding cut_line
+line_ends text line ends = rw ends
+
+no_slash : (slash blank : Bool) → slash || blank ≡ false → slash ≡ false
+no_slash false blank e = refl
+no_slash true blank e = absurd cc
+
+-- What may end goes on.
+pub line_more : (text line : List ℕ) → ends_before line ≡ false → with_commands [] (by_text (text ++ (line ++ 10 ∷ []))) ≡ cut_line (held.MayEnd text) line
+unfolding cut_line
+line_more text line goes_on =
+    let text_line : is_slash_line line ≡ false = no_slash (is_slash_line line) (is_blank line) goes_on in
+    rw (goes_on, text_line)
+
+-- What must go on does.
+pub line_on : (text line : List ℕ) → with_commands [] (by_text (text ++ (line ++ 10 ∷ []))) ≡ cut_line (held.MustGoOn text) line
+unfolding cut_line
+line_on text line = refl
+
+-- ---- what is held behind a line
+
+held_if : (b : Bool) (x y : Gives) (n : ℕ) → length (held_text x.held) ≤ n → length (held_text y.held) ≤ n → length (held_text (if b then x else y).held) ≤ n
+held_if true x y n p q = p
+held_if false x y n p q = q
+
+held_command : (line : List ℕ) (n : ℕ) → length (held_text (by_command line).held) ≤ n
+held_command line n =
+    held_if (is_exit (trimmed line)) (record { commands = []; held = held.Nothing; exits = true })
+    (record { commands = command.Invalid (trimmed line) ∷ []; held = held.Nothing; exits = false }) n (omega arith) (omega arith)
+
+if_shorter : (b : Bool) (text : List ℕ) → length (if b then [] else text) ≤ length text
+if_shorter true text = omega arith
+if_shorter false text = omega arith
+
+before_shorter : (before : Held) (line : List ℕ) → length (text_before before line) ≤ length (held_text before)
+before_shorter held.Nothing line = omega arith
+before_shorter (held.MayEnd text) line = if_shorter (ends_before line) text
+before_shorter (held.MustGoOn text) line = omega arith
+
+-- It is no longer than what was held, the line and its end.
+pub held_behind : (before : Held) (line : List ℕ) → length (held_text (cut_line before line).held) ≤ length (held_text before) + length line + 1
+unfolding cut_line
+held_behind before line =
+    let joined = text_before before line ++ (line ++ 10 ∷ []) in
+    held_if (is_command_line before line) (by_command line) (by_text joined) _ (held_command line _)
+    (omega (arith, held_analyzed (suc (length joined)) joined, before_shorter before line, length-append (text_before before line) (line ++ 10 ∷ []), length-append line (10 ∷ [])))
+
+pub few_held : {E : Type 0} (result : Result Gives E) (before : Held) (line : List ℕ) → IfOk result (λ gives. gives ≡ cut_line before line) →
+    IfOk result (λ gives. length (held_text gives.held) ≤ length (held_text before) + length line + 1)
+few_held result before line =
+    IfOk-weaker result (λ gives. gives ≡ cut_line before line) (λ gives. length (held_text gives.held) ≤ length (held_text before) + length line + 1)
+    (λ gives is. subst (λ (g : Gives). length (held_text g.held) ≤ length (held_text before) + length line + 1) (sym is) (held_behind before line))

@@ -1,0 +1,320 @@
+//! Lines, and the commands that they give by the rules of the language.
+
+ghost use Rattle.std.specs.Prelude.{◌≡◌, length};
+ghost use Rattle.jsh_cut.specs.Commands.{held_text};
+
+use crate::{Command, Held, cut_end, cut_line};
+use jsh_tree::Seq;
+use std::alloc::{AllocError, Global};
+use std::process::Abort;
+use std::test::Fail;
+
+/// Lines, what they give, what is held behind them, and what the end of the input gives then. `E<..>` is a snippet to evaluate, `I<..>` a
+/// line that no command is, and `X` an exit; `?<..>` is a text that may end, and `+<..>` one that must go on.
+type Row = (&'static str, &'static str, &'static str, &'static str);
+
+/// Snippets of one line and of several.
+const SNIPPETS: [Row; 22] = [
+    ("1 + 2", "E<1 + 2>", "", ""),
+    ("1 +", "", "+<1 +\n>", "E<1 +>"),
+    ("1 +\n2", "E<1 +\n2>", "", ""),
+    ("int x", "E<int x>", "", ""),
+    (
+        "int f() {\nreturn 1;\n}",
+        "E<int f() {\nreturn 1;\n}>",
+        "",
+        "",
+    ),
+    ("class A {\nint x;\n}", "E<class A {\nint x;\n}>", "", ""),
+    ("for (;;) x();", "E<for (;;) x();>", "", ""),
+    ("{\n\n}", "E<{\n\n}>", "", ""),
+    ("\u{e9} = 1;", "E<\u{e9} = 1;>", "", ""),
+    // several on a line
+    ("1; 2; 3", "E<1;>E<2;>E<3>", "", ""),
+    ("1; 2; 3 +", "E<1;>E<2;>", "+< 3 +\n>", "E<3 +>"),
+    ("1; 2; 3 +\n4", "E<1;>E<2;>E<3 +\n4>", "", ""),
+    ("x = 1; y", "E<x = 1;>E<y>", "", ""),
+    (
+        "if (a) b(); if (c) d();",
+        "E<if (a) b();>",
+        "?< if (c) d();\n>",
+        "E<if (c) d();>",
+    ),
+    // no snippets, and no fronts of one
+    (") x", "E<) x>", "", ""),
+    ("else", "E<else>", "", ""),
+    ("\"abc", "E<\"abc>", "", ""),
+    ("x = 1 # 2", "E<x = 1 # 2>", "", ""),
+    ("x = 1; # 2 ", "E<x = 1;>E<# 2>", "", ""),
+    ("1; ) x\n2", "E<1;>E<) x>E<2>", "", ""),
+    // lines that end in a carriage return
+    ("int x;\r", "E<int x;>", "", ""),
+    ("1 +\r\n2\r", "E<1 +\r\n2>", "", ""),
+];
+
+/// White space and comments.
+const BLANKS: [Row; 17] = [
+    ("", "", "", ""),
+    (" \t\x0c\r", "", "", ""),
+    ("// c", "", "", ""),
+    ("/* c */", "", "", ""),
+    ("//x", "", "", ""),
+    ("// c\n1", "E<1>", "", ""),
+    ("1 // c", "E<1>", "", ""),
+    (" /* a */ 1 + 2 /* b */ ", "E<1 + 2>", "", ""),
+    ("  1 +  \t", "", "+<  1 +  \t\n>", "E<1 +>"),
+    // a comment that isn't closed yet
+    ("/* c", "", "+</* c\n>", "E</* c>"),
+    ("/* c\n/foo", "", "+</* c\n/foo\n>", "E</* c\n/foo>"),
+    ("/* c\n/foo\n*/ 1", "E<1>", "", ""),
+    ("a /* b", "", "+<a /* b\n>", "E<a /* b>"),
+    (" a /* b \n\n", "", "+< a /* b \n\n\n>", "E<a /* b>"),
+    ("f(); /* c", "E<f();>", "+< /* c\n>", "E</* c>"),
+    (
+        "if (a) b(); /* c",
+        "",
+        "+<if (a) b(); /* c\n>",
+        "E<if (a) b(); /* c>",
+    ),
+    (
+        "if (a) b(); // c",
+        "",
+        "?<if (a) b(); // c\n>",
+        "E<if (a) b();>",
+    ),
+];
+
+/// Texts that an `else` may follow.
+const BRANCHES: [Row; 11] = [
+    ("if (a) b();", "", "?<if (a) b();\n>", "E<if (a) b();>"),
+    ("if (a) b();\n", "E<if (a) b();>", "", ""),
+    ("if (a) b();\n\t\r", "E<if (a) b();>", "", ""),
+    ("if (a) b();\n/x", "E<if (a) b();>I</x>", "", ""),
+    ("if (a) b();\n/exit", "E<if (a) b();>X", "", ""),
+    (
+        "if (a) b();\nelse c();",
+        "E<if (a) b();\nelse c();>",
+        "",
+        "",
+    ),
+    (
+        "if (a) b();\n\nelse c();",
+        "E<if (a) b();>E<else c();>",
+        "",
+        "",
+    ),
+    ("if (a) b();\nd();", "E<if (a) b();>E<d();>", "", ""),
+    (
+        "if (a) b();\n// c\nelse c();",
+        "E<if (a) b();\n// c\nelse c();>",
+        "",
+        "",
+    ),
+    (
+        "if (a) b(); else",
+        "",
+        "+<if (a) b(); else\n>",
+        "E<if (a) b(); else>",
+    ),
+    (
+        "if (a) b(); else\nc();",
+        "E<if (a) b(); else\nc();>",
+        "",
+        "",
+    ),
+];
+
+/// Lines that are commands, and lines that look so.
+const COMMANDS: [Row; 17] = [
+    ("/exit", "X", "", ""),
+    ("  /exit \t", "X", "", ""),
+    ("/exit\r", "X", "", ""),
+    ("/exit now", "I</exit now>", "", ""),
+    ("/Exit", "I</Exit>", "", ""),
+    ("/foo bar ", "I</foo bar>", "", ""),
+    ("\t/x\r", "I</x>", "", ""),
+    ("/?", "I</?>", "", ""),
+    ("/Z\n1", "I</Z>E<1>", "", ""),
+    // a digit, a blank, or white space that is no blank
+    ("/5", "E</5>", "", ""),
+    ("/ 2", "E</ 2>", "", ""),
+    ("/", "E</>", "", ""),
+    ("\x0c/x", "E</x>", "", ""),
+    ("x /y", "E<x /y>", "", ""),
+    // inside a snippet that must go on
+    ("{\n/foo", "E<{\n/foo>", "", ""),
+    ("{\n/exit", "E<{\n/exit>", "", ""),
+    ("1\n/exit", "E<1>X", "", ""),
+];
+
+fn length_of(held: &Held) -> usize
+    ensures { result ≡ length (held_text held.now) }
+{
+    match held {
+        Held::Nothing => 0,
+        Held::MayEnd(text) | Held::MustGoOn(text) => text.as_str().len(),
+    }
+}
+
+fn tell(told: &mut String, mark: &str, text: &str) -> Result<(), AllocError> {
+    told.push_str(mark)?;
+    told.push_str("<")?;
+    told.push_str(text)?;
+    told.push_str(">")
+}
+
+fn tell_commands(told: &mut String, commands: &[Command]) -> Result<(), AllocError> {
+    for command in commands {
+        match command {
+            Command::Eval(source) => tell(told, "E", source.as_str())?,
+            Command::Invalid(line) => tell(told, "I", line.as_str())?,
+        }
+    }
+    Ok(())
+}
+
+fn held_told(alloc: Global, held: &Held) -> Result<String, AllocError> {
+    let mut told = String::new(alloc);
+    match held {
+        Held::Nothing => {}
+        Held::MayEnd(text) => tell(&mut told, "?", text.as_str())?,
+        Held::MustGoOn(text) => tell(&mut told, "+", text.as_str())?,
+    }
+    Ok(told)
+}
+
+/// What one line more gives, told behind what the lines before it gave.
+fn feed(
+    rt: &impl Abort,
+    alloc: Global,
+    held: Held,
+    line: &str,
+    told: &mut String,
+) -> Result<Held, Fail> {
+    let length = length_of(&held);
+    assert!(rt; length < 0x4000_0000 && line.len() < 0x4000_0000);
+    let gives = cut_line(alloc, held, line)?;
+    tell_commands(told, gives.commands.as_slice())?;
+    if gives.exits {
+        told.push_str("X")?;
+    }
+    Ok(gives.held)
+}
+
+fn end_told(rt: &impl Abort, alloc: Global, held: Held) -> Result<String, Fail> {
+    let length = length_of(&held);
+    assert!(rt; length < 0x4000_0000);
+    let commands: Seq<Command> = cut_end(alloc, held)?;
+    let mut told = String::new(alloc);
+    tell_commands(&mut told, commands.as_slice())?;
+    Ok(told)
+}
+
+fn check_all(rt: &impl Abort, alloc: Global, rows: &[Row]) -> Result<(), Fail> {
+    for (lines, gives, holds, ends) in rows {
+        let mut held = Held::Nothing;
+        let mut told = String::new(alloc);
+        for line in lines.split('\n') {
+            held = feed(rt, alloc, held, line, &mut told)?;
+        }
+        assert_eq!(rt; told.as_str(), *gives, "what {:?} gives", lines);
+        let holding = held_told(alloc, &held)?;
+        assert_eq!(rt; holding.as_str(), *holds, "what is held behind {:?}", lines);
+        let ended = end_told(rt, alloc, held)?;
+        assert_eq!(rt;
+            ended.as_str(),
+            *ends,
+            "what the end behind {:?} gives",
+            lines
+        );
+    }
+    Ok(())
+}
+
+#[test]
+fn lines_are_collected_until_they_are_a_snippet(rt: HostRuntime) -> Result<(), Fail> {
+    check_all(&rt, rt.alloc(), &SNIPPETS)
+}
+
+#[test]
+fn white_space_and_comments_are_no_snippets(rt: HostRuntime) -> Result<(), Fail> {
+    check_all(&rt, rt.alloc(), &BLANKS)
+}
+
+#[test]
+fn an_else_may_follow(rt: HostRuntime) -> Result<(), Fail> {
+    check_all(&rt, rt.alloc(), &BRANCHES)
+}
+
+#[test]
+fn some_lines_are_commands(rt: HostRuntime) -> Result<(), Fail> {
+    check_all(&rt, rt.alloc(), &COMMANDS)
+}
+
+/// A brace, a word of so many bytes, and white space.
+fn long_line(alloc: Global, letters: u32, spaces: u32) -> Result<String, AllocError> {
+    let mut line = String::from_str(alloc, "{")?;
+    for _ in 0..letters {
+        line.push('x')?;
+    }
+    for _ in 0..spaces {
+        line.push(' ')?;
+    }
+    Ok(line)
+}
+
+/// How many bytes of source the line submits, and how many bytes are held behind it.
+fn lengths(rt: &impl Abort, alloc: Global, line: &str) -> Result<(usize, usize), Fail> {
+    assert!(rt; line.len() < 0x4000_0000);
+    let gives = cut_line(alloc, Held::Nothing, line)?;
+    let submitted = match gives.commands.as_slice() {
+        [Command::Eval(source)] => source.as_str().len(),
+        _ => 0,
+    };
+    Ok((submitted, length_of(&gives.held)))
+}
+
+/// As many statements as given, on a line.
+fn statements(alloc: Global, count: u32) -> Result<String, AllocError> {
+    let mut line = String::new(alloc);
+    for _ in 0..count {
+        line.push_str("f();")?;
+    }
+    Ok(line)
+}
+
+#[test]
+fn lines_are_too_long_together(rt: HostRuntime) -> Result<(), Fail> {
+    let line = statements(rt.alloc(), 1_000)?;
+    let mut told = String::new(rt.alloc());
+    let mut held = feed(&rt, rt.alloc(), Held::Nothing, "{", &mut told)?;
+    // two bytes, and 4,001 for each of these lines
+    for _ in 0..16 {
+        held = feed(&rt, rt.alloc(), held, line.as_str(), &mut told)?;
+    }
+    assert_eq!(rt; (told.len(), length_of(&held)), (0, 64_018));
+    held = feed(&rt, rt.alloc(), held, line.as_str(), &mut told)?;
+    // without the last line feed, and with a mark about it
+    assert_eq!(rt; (told.len(), length_of(&held)), (68_021, 0));
+    Ok(())
+}
+
+#[test]
+fn a_source_that_is_too_long_does_not_wait(rt: HostRuntime) -> Result<(), Fail> {
+    // letters, spaces behind them, bytes submitted and bytes held
+    let rows: [(u32, u32, usize, usize); 4] = [
+        (65_535, 0, 0, 65_537),
+        (65_536, 0, 65_537, 0),
+        (65_535, 1_000, 0, 66_537),
+        (0, 70_000, 0, 70_002),
+    ];
+    for (letters, spaces, submitted, held) in rows {
+        let line = long_line(rt.alloc(), letters, spaces)?;
+        assert_eq!(rt;
+            lengths(&rt, rt.alloc(), line.as_str())?,
+            (submitted, held),
+            "{letters} letters"
+        );
+    }
+    Ok(())
+}
