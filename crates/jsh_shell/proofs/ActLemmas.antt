@@ -10,8 +10,8 @@ use Rattle.jsh_snippet.specs.declared.replies.Reply.{Reply}
 use Rattle.jsh_snippet.specs.declared.replies.ReplyBody.{ReplyBody}
 use Rattle.jsh_snippet.specs.declared.replies.ReplyBody.TheVariants as body
 use Rattle.jsh_render.specs.Texts.{shown}
-use Rattle.jsh_lines.specs.Lines.{Command}
-use Rattle.jsh_lines.specs.Lines.Command.{Eval}
+use Rattle.jsh_shell.specs.Lines.{Command}
+use Rattle.jsh_shell.specs.Lines.Command.{Eval}
 use Rattle.jsh_core.specs.declared.world.RunView.{RunView}
 use Rattle.jsh_core.specs.State.{State, numbered}
 use Rattle.jsh_core.specs.Snippets.{run_of, submitted}

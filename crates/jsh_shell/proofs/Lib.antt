@@ -1,3 +1,4 @@
+pub mod Commands
 pub mod Walk
 pub mod Lengths
 pub mod ActLemmas

@@ -4,8 +4,8 @@ use Rattle.jsh_snippet.specs.declared.acts.Act.{Act}
 use Rattle.jsh_snippet.specs.declared.acts.Act.TheVariants as act
 use Rattle.jsh_snippet.specs.declared.acts.Entry.{Entry}
 use Rattle.jsh_snippet.specs.declared.replies.ReplyBody.{ReplyBody}
-use Rattle.jsh_lines.specs.Lines.{Command}
-use Rattle.jsh_lines.specs.Lines.Command.{Eval}
+use Rattle.jsh_shell.specs.Lines.{Command}
+use Rattle.jsh_shell.specs.Lines.Command.{Eval}
 use Rattle.jsh_core.specs.declared.world.RunView.{RunView}
 use Rattle.jsh_core.specs.State.{State}
 use Rattle.jsh_core.specs.Step.{step}

@@ -2,9 +2,10 @@
 use Rattle.std.proofs.Common.{◌≡◌, ℕ, ◌+◌, ◌==◌, ◌||◌, Bool, true, false, List, [], ◌∷◌, ◌++◌, Option, None, Some, MatchOption, take, drop, refl, ap, sym, subst, ◌∙◌, append_assoc, append-nil}
 use Rattle.std.proofs.lemmas.List.{drop-drop}
 use Rattle.jsh_snippet.specs.declared.acts.Entry.{Entry}
-use Rattle.jsh_lines.specs.Lines.{Command, Cut, IsFirstLineFeed, cut, evals, has_line_feed}
+use Rattle.jsh_lines.specs.Lines.{Cut, IsFirstLineFeed, cut, has_line_feed}
+use Rattle.jsh_shell.specs.Lines.{Command, evals}
 use Rattle.jsh_lines.proofs.Cuts.{cut-line, cut-no_line, has_line_feed-uncut}
-use Rattle.jsh_lines.proofs.Commands.{evals-append}
+use Rattle.jsh_shell.proofs.Commands.{evals-append}
 use Rattle.jsh_shell.specs.declared.halts.Halt.{Halt}
 use Rattle.jsh_shell.specs.declared.halts.Halt.TheVariants as halt
 use Rattle.jsh_shell.specs.Serving.{Serves, ServesPart}

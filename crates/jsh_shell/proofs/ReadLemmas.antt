@@ -3,9 +3,10 @@ use Rattle.std.proofs.Common.{◌≡◌, ℕ, ◌+◌, ◌<◌, ◌≤◌, true,
 use Rattle.std.specs.Io.KnownBytes.{prepend_known}
 use Rattle.jsh_io.proofs.Known.{prepend_known-prepend_known, prepend_known-nil}
 use Rattle.jsh_snippet.specs.declared.acts.Entry.{Entry}
-use Rattle.jsh_lines.specs.Lines.{Command, Cut, cut, evals, commands}
+use Rattle.jsh_lines.specs.Lines.{Cut, cut}
+use Rattle.jsh_shell.specs.Lines.{Command, evals, commands}
 use Rattle.jsh_lines.proofs.Cuts.{cut-append, cut-rest}
-use Rattle.jsh_lines.proofs.Commands.{evals-append}
+use Rattle.jsh_shell.proofs.Commands.{evals-append}
 use Rattle.jsh_shell.specs.declared.halts.Halt.{Halt}
 use Rattle.jsh_shell.specs.declared.halts.Halt.TheVariants as halt
 use Rattle.jsh_shell.specs.Budget.{most_input}

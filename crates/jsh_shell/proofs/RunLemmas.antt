@@ -10,7 +10,7 @@ use Rattle.jsh_io.specs.Count.{Rose, TakesPart}
 use Rattle.jsh_io.specs.Inputs.{IsEmptyWhereTold}
 use Rattle.jsh_snippet.specs.declared.acts.Act.TheVariants as act
 use Rattle.jsh_snippet.specs.declared.acts.Entry.{Entry}
-use Rattle.jsh_lines.specs.Lines.{Command, commands}
+use Rattle.jsh_shell.specs.Lines.{Command, commands}
 use Rattle.jsh_core.specs.State.{State, opening}
 use Rattle.jsh_core.specs.Step.{step}
 use Rattle.jsh_core.specs.History.{state_of, state_after, Allows}

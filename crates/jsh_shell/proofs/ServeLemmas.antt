@@ -3,9 +3,10 @@ use Rattle.std.proofs.Common.{◌≡◌, ℕ, ◌-◌, ◌<◌, ◌≤◌, ◌^�
 use Rattle.std.proofs.lemmas.Bool.{cases_lt}
 use Rattle.jsh_io.specs.Count.{Rose}
 use Rattle.jsh_snippet.specs.declared.acts.Entry.{Entry}
-use Rattle.jsh_lines.specs.Lines.{Command, evals, is_blank, as_text}
-use Rattle.jsh_lines.specs.Lines.Command.{Eval}
-use Rattle.jsh_lines.proofs.Commands.{evals-blank, evals-line}
+use Rattle.jsh_lines.specs.Lines.{is_blank, as_text}
+use Rattle.jsh_shell.specs.Lines.{Command, evals}
+use Rattle.jsh_shell.specs.Lines.Command.{Eval}
+use Rattle.jsh_shell.proofs.Commands.{evals-blank, evals-line}
 use Rattle.jsh_core.specs.History.{state_of}
 use Rattle.jsh_shell.specs.declared.halts.Halt.{Halt}
 use Rattle.jsh_shell.specs.declared.halts.Halt.TheVariants as halt

@@ -5,7 +5,7 @@ use Rattle.std.specs.Io.KnownBytes.{prepend_known}
 use Rattle.jsh_snippet.specs.declared.acts.Act.{Act}
 use Rattle.jsh_snippet.specs.declared.acts.Act.TheVariants as act
 use Rattle.jsh_snippet.specs.declared.acts.Entry.{Entry}
-use Rattle.jsh_lines.specs.Lines.{commands}
+use Rattle.jsh_shell.specs.Lines.{commands}
 use Rattle.jsh_core.specs.State.{opening}
 use Rattle.jsh_shell.specs.Progress.{Progress, Follows, begins}
 use Rattle.jsh_shell.specs.Progress.Phase.{Between, CutShort}

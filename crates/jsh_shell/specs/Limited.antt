@@ -1,8 +1,8 @@
 -- Where a limit keeps a client from going on.
 use Rattle.std.specs.Prelude.{◌≡◌, ◌+◌, ◌<◌, ◌≤◌, ◌⊎◌, true, List, [], ◌∷◌, length}
 use Rattle.jsh_snippet.specs.declared.acts.Entry.{Entry}
-use Rattle.jsh_lines.specs.Lines.{Command}
-use Rattle.jsh_lines.specs.Lines.Command.{Eval}
+use Rattle.jsh_shell.specs.Lines.{Command}
+use Rattle.jsh_shell.specs.Lines.Command.{Eval}
 use Rattle.jsh_core.specs.History.{source_bytes}
 use Rattle.jsh_shell.specs.Progress.{Phase, Progress}
 use Rattle.jsh_shell.specs.Progress.Phase.{Between, Evaluating, CutShort}
@@ -11,7 +11,7 @@ use Rattle.jsh_shell.specs.Progress.Phase.{Between, Evaluating, CutShort}
 abbrev pub IsTooLong : List Entry → List Command → Type 0
 IsTooLong before [] = ⊥
 IsTooLong before (Eval text ∷ commands) =
-    (256 < length text) ⊎ (67108864 < source_bytes before + length text)
+    (65536 < length text) ⊎ (67108864 < source_bytes before + length text)
 
 -- something is left to do: a command, or the rest of an evaluation
 abbrev pub HasRest : Phase → List Command → Type 0

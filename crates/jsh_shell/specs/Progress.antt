@@ -8,8 +8,8 @@ use Rattle.jsh_snippet.specs.declared.replies.ReplyBody.TheVariants as body
 use Rattle.jsh_snippet.specs.declared.replies.Collected.TheVariants as «collected»
 use Rattle.jsh_snippet.specs.declared.replies.Refusal.TheVariants as refusal
 use Rattle.jsh_sched.specs.Pick.{picked}
-use Rattle.jsh_lines.specs.Lines.{Command}
-use Rattle.jsh_lines.specs.Lines.Command.{Eval}
+use Rattle.jsh_shell.specs.Lines.{Command}
+use Rattle.jsh_shell.specs.Lines.Command.{Eval}
 use Rattle.jsh_core.specs.declared.world.RunView.{RunView}
 use Rattle.jsh_core.specs.State.{State}
 use Rattle.jsh_core.specs.Snippets.{run_of}

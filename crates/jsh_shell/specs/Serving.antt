@@ -6,8 +6,8 @@ use Rattle.jsh_io.specs.Count.{Rose}
 use Rattle.jsh_snippet.specs.declared.acts.Entry.{Entry}
 use Rattle.jsh_snippet.specs.declared.replies.Reply.{Reply}
 use Rattle.jsh_render.specs.Texts.{shown}
-use Rattle.jsh_lines.specs.Lines.{Command, commands}
-use Rattle.jsh_lines.specs.Lines.Command.{Eval}
+use Rattle.jsh_shell.specs.Lines.{Command, commands}
+use Rattle.jsh_shell.specs.Lines.Command.{Eval}
 use Rattle.jsh_core.specs.declared.world.Thread.{Thread}
 use Rattle.jsh_core.specs.State.{State, numbered}
 use Rattle.jsh_core.specs.Step.{step}

@@ -1,6 +1,6 @@
 ghost use Rattle.std.specs.Prelude.{◌≡◌, ◌≤◌, ◌⊎◌, ◌∷◌, [], ℕ, true, false, length, Err, IfErr, IfOk, IfSome, IsSome, OnOk};
 ghost use Rattle.jsh_snippet.specs.declared.acts.Act.TheVariants as act;
-ghost use Rattle.jsh_lines.specs.Lines.Command.{Eval};
+ghost use Rattle.jsh_shell.specs.Lines.Command.{Eval};
 ghost use Rattle.jsh_core.specs.declared.world.RunView.{RunView};
 ghost use Rattle.jsh_core.specs.Runs.{run_view};
 ghost use Rattle.jsh_core.specs.History.{state_of, MayDo};
@@ -23,7 +23,7 @@ use std::sync::ledger::Ledger;
 const MAX_HISTORY: u64 = 4_194_304;
 
 /// The bytes that a source may have.
-const MAX_SOURCE: usize = 256;
+const MAX_SOURCE: usize = 65_536;
 
 /// The bytes that all sources of a history may have.
 const MAX_HISTORY_BYTES: u64 = 67_108_864;

@@ -1,6 +1,7 @@
 ghost use Rattle.std.specs.Prelude.{◌≡◌, ◌<◌, ◌≤◌, ◌++◌, ◌∷◌, [], length, take, Ok, IfErr, IfOk, IfSome, OnErr, OnOk};
 ghost use Rattle.std.specs.Io.KnownBytes.{prepend_known};
-ghost use Rattle.jsh_lines.specs.Lines.{cut, evals};
+ghost use Rattle.jsh_lines.specs.Lines.{cut};
+ghost use Rattle.jsh_shell.specs.Lines.{evals};
 ghost use Rattle.jsh_io.specs.Count.{Rose};
 ghost use Rattle.jsh_shell.specs.Serving.{HasCause, IsOpen, IsServedBy, Serves, ServesPart};
 

@@ -80,7 +80,24 @@ const TWO: [(u32, Did); 9] = [
     (0, Did::Close),
 ];
 
-const ROWS: [Row; 6] = [
+const FAULTY: [(u32, Did); 14] = [
+    (0, Did::Enter),
+    (1, Did::Submit("-2147483648")),
+    (1, Did::Turn(1, 2)),
+    (1, Did::Collect(1)),
+    (1, Did::Submit("2147483648")),
+    (1, Did::Submit("1 + 0x;")),
+    (1, Did::Submit("1 + )")),
+    (1, Did::Submit("// c")),
+    (1, Did::Submit("1; 2")),
+    (1, Did::Submit("0xA - 07;")),
+    (1, Did::Turn(2, 2)),
+    (1, Did::Collect(2)),
+    (1, Did::Leave),
+    (0, Did::Close),
+];
+
+const ROWS: [Row; 7] = [
     Row {
         input: "1 + 2\n",
         written: "$1 ==> 3\n",
@@ -100,6 +117,11 @@ const ROWS: [Row; 6] = [
         input: "2147483647 + 1\nx\n",
         written: "$1 ==> -2147483648\n|  Error at 1:1: not built yet\n",
         journal: &WRAPPED,
+    },
+    Row {
+        input: "-2147483648\n2147483648\n1 + 0x;\n1 + )\n// c\n1; 2\n0xA - 07;\n",
+        written: "$1 ==> -2147483648\n|  Error at 1:1: number too big\n|  Error at 1:5: bad token\n|  Error at 1:5: unexpected text\n|  Error at 1:1: one snippet is needed\n|  Error at 1:4: unexpected text\n$7 ==> 3\n",
+        journal: &FAULTY,
     },
     Row {
         input: " \t\n\r\n\t1-2 \n   \n",
@@ -265,8 +287,8 @@ fn lines_of_x(alloc: Global, lines: u32, letters: u32) -> Result<Vec<u8>, AllocE
 #[test]
 fn stops_at_a_limit(rt: HostRuntime) -> Result<(), Fail> {
     let rows = [
-        (1, 256, 0, 4, 31, "|  Error at 1:1: not built yet\n"),
-        (1, 257, 6, 3, 0, ""),
+        (1, 65_536, 0, 4, 31, "|  Error at 1:1: not built yet\n"),
+        (1, 65_537, 6, 3, 0, ""),
         (
             16_385,
             1,

@@ -1,6 +1,6 @@
 -- The line is what was held and its end.
 use Rattle.std.proofs.Common.{◌∷◌, [], arith, ◌∙◌, subst, List, ℕ}
-use Rattle.jsh_lines.specs.Lines.{evals}
+use Rattle.jsh_shell.specs.Lines.{evals}
 use Rattle.jsh_shell.specs.Serving.{Serves, ServesPart}
 use Rattle.jsh_shell.proofs.ServeLemmas.{part-for-memory}
 use Rattle.jsh_shell.proofs.serving.serve_held.Goals as goal

@@ -1,6 +1,6 @@
 -- A blank line is no command, and any other is one snippet.
 use Rattle.std.proofs.Common.{◌∷◌, [], arith, sym, ◌∙◌, subst, List, ℕ}
-use Rattle.jsh_lines.specs.Lines.Command.{Eval}
+use Rattle.jsh_shell.specs.Lines.Command.{Eval}
 use Rattle.jsh_shell.specs.Serving.{Serves, ServesPart}
 use Rattle.jsh_shell.proofs.ServeLemmas.{serves-line-blank, serves-line-text, part-line-text, part-for-memory}
 use Rattle.jsh_shell.proofs.serving.serve_line.Goals as goal

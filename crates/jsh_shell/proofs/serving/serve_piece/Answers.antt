@@ -1,6 +1,7 @@
 -- Line by line, and then the rest is held.
 use Rattle.std.proofs.Common.{rules, ◌≡◌, ◌<◌, ◌+◌, ◌++◌, ◌∷◌, [], false, arith, sym, ◌∙◌, ap, subst, List, ℕ, length, drop}
-use Rattle.jsh_lines.specs.Lines.{has_line_feed, cut, evals}
+use Rattle.jsh_lines.specs.Lines.{has_line_feed, cut}
+use Rattle.jsh_shell.specs.Lines.{evals}
 use Rattle.jsh_shell.specs.Serving.{Serves, ServesPart}
 use Rattle.jsh_shell.proofs.ServeLemmas.{cause-earlier}
 use Rattle.jsh_shell.proofs.PieceLemmas.{IsAlong, along-start, along-line, along-part, along-memory, along-end, along-rest, behind-feed}

@@ -1,7 +1,7 @@
 -- Piece by piece, until there is no more.
 use Rattle.std.proofs.Common.{◌≡◌, ◌≤◌, ◌<◌, ◌+◌, ◌-◌, ◌∷◌, [], arith, sym, ◌∙◌, ap, subst, List, ℕ, length, take, Ok, length-take}
 use Rattle.std.specs.Io.KnownBytes.{prepend_known}
-use Rattle.jsh_lines.specs.Lines.{evals}
+use Rattle.jsh_shell.specs.Lines.{evals}
 use Rattle.jsh_shell.specs.Budget.{most_input}
 use Rattle.jsh_shell.specs.Serving.{Serves, ServesPart}
 use Rattle.jsh_shell.proofs.ServeLemmas.{rose-earlier, sink-rose}
