@@ -17,8 +17,8 @@ use Rattle.jsh_pieces.proofs.LexisSteps.{IsRight, Taken, taken}
 use Rattle.jsh_pieces.proofs.LexisMarks.{has_opening, opening_behind}
 
 -- a comment that isn't closed is told only where this holds
-record Opens (opening : Bool) (l : Lexeme) : Type 0 where
-  holds : l ≡ Wrong OpenComment → opening ≡ true
+pub record Opens (opening : Bool) (l : Lexeme) : Type 0 where
+  pub holds : l ≡ Wrong OpenComment → opening ≡ true
 
 choose : (b opening : Bool) (x y : Front) → (b ≡ true → Opens opening x.0) → Opens opening y.0 → Opens opening (cond b x y).0
 choose true opening x y f g = f refl
@@ -49,7 +49,7 @@ operator_opens opening [] cs = record { holds = λ e. cc }
 operator_opens opening (entry ∷ entries) cs =
     choose (begins entry.0 cs) opening (Spelled entry.1, drop (length entry.0) cs) (operator_in entries cs) (λ h. record { holds = λ e. cc }) (operator_opens opening entries cs)
 
-front_opens : (c : ℕ) (cs : List ℕ) → Opens (begins (codes "/*") (c ∷ cs)) (front (c ∷ cs)).0
+pub front_opens : (c : ℕ) (cs : List ℕ) → Opens (begins (codes "/*") (c ∷ cs)) (front (c ∷ cs)).0
 unfolding front operator
 front_opens c cs =
     let opening = begins (codes "/*") (c ∷ cs) in

@@ -50,7 +50,7 @@ white_dropped n m text c cs e h k = lexed_white n text c cs e ∙ skip_white n m
 
 -- ---- one lexeme
 
-place_same : (text cs more : List ℕ) → place (text ++ more) (cs ++ more) ≡ place text cs
+pub place_same : (text cs more : List ℕ) → place (text ++ more) (cs ++ more) ≡ place text cs
 place_same text cs more = omega (arith, width-append text more, width-append cs more)
 
 -- a lexeme that the longer text has, too, is followed there by what follows it here
@@ -183,7 +183,7 @@ line_feed_ascii : IsAscii (10 ∷ [])
 line_feed_ascii zero = omega arith
 line_feed_ascii (suc i) = omega arith
 
-ends_chars : (text : List ℕ) → IsUtf8 text → ends_line text ≡ true → ends_line (chars text) ≡ true
+pub ends_chars : (text : List ℕ) → IsUtf8 text → ends_line text ≡ true → ends_line (chars text) ≡ true
 ends_chars [] u h = ap ends_line chars-nil
 ends_chars (c ∷ cs) u h =
     let split = line_split c cs h in
@@ -204,7 +204,7 @@ ends_line_at_last (c ∷ d ∷ cs) some h =
     ends_line_at_last (d ∷ cs) (omega arith) (sym (ap (λ k. get_or (c ∷ d ∷ cs) k 0) at) ∙ h)
 
 -- what is behind a place, with more behind it, as a text of its own
-behind_place : (text more ys ds : List ℕ) (k : ℕ) → IsUtf8 text → IsUtf8 more → chars text ≡ ys ++ ds → length (ds ++ chars more) ≤ k
+pub behind_place : (text more ys ds : List ℕ) (k : ℕ) → IsUtf8 text → IsUtf8 more → chars text ≡ ys ++ ds → length (ds ++ chars more) ≤ k
     → lexed k (chars text ++ chars more) (ds ++ chars more) ≡ moved_lexed (width ys) (tokens (drop (width ys) text ++ more))
 behind_place text more ys ds k u v parts fits =
     let half : Halves text ys ds = record { utf8 = u; parts = parts } in

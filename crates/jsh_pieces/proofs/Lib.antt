@@ -4,3 +4,4 @@ pub mod LexisFronts
 pub mod LexisMarks
 pub mod LexisOpen
 pub mod LexisResumes
+pub mod LexisStillOpen
