@@ -14,7 +14,7 @@ use Rattle.jsh_complete.specs.declared.completion.Completeness.{Completeness}
 use Rattle.jsh_complete.specs.declared.completion.Completeness.TheVariants as completeness
 use Rattle.jsh_complete.specs.declared.reading.Halt.{Halt}
 use Rattle.jsh_complete.specs.declared.reading.Halt.TheVariants as halt
-use Rattle.jsh_complete.specs.Completeness.{Stop, lexical_stop, too_deep, LacksSemicolon, end_of}
+use Rattle.jsh_complete.specs.Completeness.{Stop, lexical_stop, too_deep, IsSnippet, LacksSemicolon, end_of}
 use Rattle.jsh_complete.specs.Reading.{IsBehind, MayCome, IsOpen, IsLongest, Halts, counted_of, stop_of, IsGiven}
 use Rattle.jsh_complete.proofs.Behind.{some_prefix, refused, wants_some, wants_none, stops_whole, open_not_whole}
 use Rattle.jsh_complete.proofs.Behind as behind
@@ -52,21 +52,34 @@ may_not_come k advance.Taken looks is ks runs may = absurd cc
 may_not_come k advance.TooDeep looks is ks runs may = absurd cc
 may_not_come k advance.Refused looks is ks runs may = refused ks runs looks may.0 may.1
 
+-- with a `;` behind, the tokens are a snippet or not
 pub semicolon_taken : (fs next : Frames) (a : Advance) (b : Bool) (ks : List TokenKind) → Advances 256 token.Semicolon fs next a → a ≡ advance.Taken →
-    IsBehind ks fs → (MayCome ks token.LeftBrace → ⊥) → b ≡ may_all_stop next → MatchBool b (LacksSemicolon ks) (LacksSemicolon ks → ⊥)
-semicolon_taken fs next advance.Taken true ks steps is runs no_brace stop =
-    (stops_whole (ks ++ token.Semicolon ∷ []) (runs_put runs steps.1 steps.2) (sym stop), λ room brace. no_brace (room, brace))
-semicolon_taken fs next advance.Taken false ks steps is runs no_brace stop =
-    λ lacks. open_not_whole (ks ++ token.Semicolon ∷ []) (runs_put runs steps.1 steps.2) (sym stop) lacks.0
-semicolon_taken fs next advance.TooDeep b ks steps is runs no_brace stop = absurd cc
-semicolon_taken fs next advance.Refused b ks steps is runs no_brace stop = absurd cc
+    IsBehind ks fs → b ≡ may_all_stop next → MatchBool b (IsSnippet (ks ++ token.Semicolon ∷ [])) (IsSnippet (ks ++ token.Semicolon ∷ []) → ⊥)
+semicolon_taken fs next advance.Taken true ks steps is runs stop = stops_whole (ks ++ token.Semicolon ∷ []) (runs_put runs steps.1 steps.2) (sym stop)
+semicolon_taken fs next advance.Taken false ks steps is runs stop = open_not_whole (ks ++ token.Semicolon ∷ []) (runs_put runs steps.1 steps.2) (sym stop)
+semicolon_taken fs next advance.TooDeep b ks steps is runs stop = absurd cc
+semicolon_taken fs next advance.Refused b ks steps is runs stop = absurd cc
 
 pub semicolon_not_taken : (fs next : Frames) (a : Advance) → Advances 256 token.Semicolon fs next a → (a ≡ advance.TooDeep) ⊎ (a ≡ advance.Refused) →
-    (ks : List TokenKind) → IsBehind ks fs → LacksSemicolon ks → ⊥
-semicolon_not_taken fs next advance.Taken steps (inl e) ks runs lacks = absurd cc
-semicolon_not_taken fs next advance.Taken steps (inr e) ks runs lacks = absurd cc
-semicolon_not_taken fs next advance.TooDeep steps is ks runs lacks = behind.too_deep ks runs steps.0.2 steps.0.3 (inl lacks.0)
-semicolon_not_taken fs next advance.Refused steps is ks runs lacks = refused ks runs steps.0 256 (inl lacks.0)
+    (ks : List TokenKind) → IsBehind ks fs → IsSnippet (ks ++ token.Semicolon ∷ []) → ⊥
+semicolon_not_taken fs next advance.Taken steps (inl e) ks runs snip = absurd cc
+semicolon_not_taken fs next advance.Taken steps (inr e) ks runs snip = absurd cc
+semicolon_not_taken fs next advance.TooDeep steps is ks runs snip = behind.too_deep ks runs steps.0.2 steps.0.3 (inl snip)
+semicolon_not_taken fs next advance.Refused steps is ks runs snip = refused ks runs steps.0 256 (inl snip)
+
+-- one that couldn't be taken makes no snippet
+pub semicolon_refused : {fs : Frames} (a : Advance) → Looks 256 token.Semicolon fs a → (a ≡ advance.TooDeep) ⊎ (a ≡ advance.Refused) →
+    (ks : List TokenKind) → IsBehind ks fs → IsSnippet (ks ++ token.Semicolon ∷ []) → ⊥
+semicolon_refused advance.Taken looks (inl e) ks runs snip = absurd cc
+semicolon_refused advance.Taken looks (inr e) ks runs snip = absurd cc
+semicolon_refused advance.TooDeep looks is ks runs snip = behind.too_deep ks runs looks.2 looks.3 (inl snip)
+semicolon_refused advance.Refused looks is ks runs snip = refused ks runs looks 256 (inl snip)
+
+-- and where no block could begin, it is all that is missing
+pub semicolon_lacks : (ks : List TokenKind) (b : Bool) → (MayCome ks token.LeftBrace → ⊥) →
+    MatchBool b (IsSnippet (ks ++ token.Semicolon ∷ [])) (IsSnippet (ks ++ token.Semicolon ∷ []) → ⊥) → MatchBool b (LacksSemicolon ks) (LacksSemicolon ks → ⊥)
+semicolon_lacks ks true no_brace is = (is, λ room brace. no_brace (room, brace))
+semicolon_lacks ks false no_brace is = λ lacks. is lacks.0
 
 -- what is wanted shows what may go on
 pub wants_open : {fs : Frames} (ks : List TokenKind) (wanted : Option TokenKind) (b : Bool) → Wants fs wanted → ks ≢ [] → IsBehind ks fs →

@@ -4,5 +4,6 @@ pub mod Counted
 pub mod Given
 pub mod Judged
 pub mod Taken
+pub mod Readings
 pub mod Unique
 pub mod Total

@@ -1,7 +1,8 @@
 -- What becomes of the next token.
-use Rattle.std.proofs.Common.{◌≡◌, ℕ, zero, suc, ◌+◌, ◌<◌, List, [], ◌∷◌, ◌++◌, take, length, get_or, inl, inr, refl, sym, ap, subst, arith}
+use Rattle.std.proofs.Common.{◌≡◌, ◌≢◌, ℕ, zero, suc, ◌+◌, ◌<◌, List, [], ◌∷◌, ◌++◌, take, length, get_or, inl, inr, refl, sym, ap, subst, arith}
 use Rattle.std.proofs.lemmas.Bool.{cases_lt}
 use Rattle.jsh_tree.specs.declared.token.Token.{Token}
+use Rattle.jsh_tree.specs.declared.token.TokenKind.{TokenKind}
 use Rattle.jsh_grammar.specs.Productions.{snippet}
 use Rattle.jsh_grammar.specs.Fronts.{IsPrefix}
 use Rattle.jsh_recognizer.specs.declared.recognizer.Advance.{Advance}
@@ -28,6 +29,12 @@ more_behind old new advance.Taken ts i d lt runs steps is =
     subst (λ n. IsBehind (kinds (take n ts)) new) same (subst (λ x. IsBehind x new) (sym (next_kinds ts i d lt)) put)
 more_behind old new advance.TooDeep ts i d lt runs steps is = absurd cc
 more_behind old new advance.Refused ts i d lt runs steps is = absurd cc
+
+-- any other leaves the frames as they are
+pub stays : (k : TokenKind) (old new : Frames) (a : Advance) → Advances 256 k old new a → a ≢ advance.Taken → new ≡ old
+stays k old new advance.Taken steps other = absurd (other refl)
+stays k old new advance.TooDeep steps other = steps.1
+stays k old new advance.Refused steps other = steps.1
 
 -- it stands too deep
 pub halts_deep : (old new : Frames) (a : Advance) (ts : List Token) (i : ℕ) (d : Token) → i < length ts → IsBehind (kinds (take i ts)) old →

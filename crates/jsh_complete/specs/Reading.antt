@@ -8,10 +8,12 @@ use Rattle.jsh_grammar.specs.Fronts.{IsPrefix}
 use Rattle.jsh_recognizer.specs.Machine.{Frames, Runs}
 use Rattle.jsh_recognizer.specs.declared.recognizer.Start.TheVariants as start
 use Rattle.jsh_recognizer.specs.Recognizing.{first, kinds}
+use Rattle.jsh_recognizer.specs.Stacks.{frames_of}
 use Rattle.jsh_recognizer.specs.Stops.{IsDeeper}
 use Rattle.jsh_complete.specs.declared.completion.Completeness.{Completeness}
 use Rattle.jsh_complete.specs.declared.reading.Halt.{Halt}
 use Rattle.jsh_complete.specs.declared.reading.Halt.TheVariants as halt
+use Rattle.jsh_complete.specs.declared.reading.Reader.{Reader}
 use Rattle.jsh_complete.specs.Completeness.{Stop, too_deep, lexical_stop, IsSnippet, MayGoOn, Rule, Applies, NoneApplies, before, kind_by}
 
 -- these frames stand behind these kinds
@@ -31,6 +33,12 @@ abbrev pub IsLongest : List Token → ℕ → ℕ → Type 0
 IsLongest ts most longest =
     (longest ≤ most) × (0 < longest → IsSnippet (kinds (take longest ts))) ×
     ((m : ℕ) → longest < m → m ≤ most → IsSnippet (kinds (take m ts)) → ⊥)
+
+-- so many of the tokens were taken, and the longest snippet that they begin with is known
+pub record HasRead (ts : List Token) (reader : Reader) : Type 0 where
+  pub few : reader.taken ≤ length ts
+  pub behind : IsBehind (kinds (take reader.taken ts)) (frames_of reader.recognizer.stack)
+  pub longest : IsLongest ts reader.taken reader.longest
 
 -- why no more than so many tokens were taken
 abbrev pub Halts : List Token → ℕ → Halt → Type 0

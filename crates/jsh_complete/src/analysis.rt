@@ -1,17 +1,19 @@
 //! What a text is by its tokens.
 
-ghost use Rattle.std.specs.Prelude.{◌≡◌, ◌<◌, ◌≤◌, ◌^◌, List, take, length, MatchBool};
+ghost use Rattle.std.specs.Prelude.{◌≡◌, ◌<◌, ◌≤◌, ◌^◌, List, take, length, MatchBool, [], ◌∷◌, ◌++◌};
 ghost use Rattle.jsh_tree.specs.declared.token.TokenKind.{TokenKind as Kind};
+ghost use Rattle.jsh_tree.specs.declared.token.TokenKind.TheVariants as token;
 ghost use Rattle.jsh_recognizer.specs.Recognizing.{kinds};
 ghost use Rattle.jsh_recognizer.specs.Stacks.{frames_of};
-ghost use Rattle.jsh_complete.specs.Completeness.{at_end, at_fault, LacksSemicolon, end_of, IsCompletion};
+ghost use Rattle.jsh_complete.specs.Completeness.{at_end, at_fault, IsSnippet, LacksSemicolon, end_of, IsCompletion};
 ghost use Rattle.jsh_complete.specs.declared.completion.Completeness.TheVariants as completeness;
-ghost use Rattle.jsh_complete.specs.Reading.{IsBehind, MayCome, IsOpen, IsLongest, Halts, counted_of, stop_of, IsGiven};
+ghost use Rattle.jsh_complete.specs.Reading.{IsBehind, MayCome, IsOpen, IsLongest, HasRead, Halts, counted_of, stop_of, IsGiven};
 
 use crate::completion::{Completeness, Completion};
-use crate::reading::{Halt, Reading, read};
+use crate::reading::{Halt, Reader};
+use arrayvec::ArrayVec;
 use jsh_lex::LexFault;
-use jsh_recognizer::{Advance, Recognizer, Start};
+use jsh_recognizer::{Advance, Frame, Recognizer};
 use jsh_tree::{Token, TokenKind};
 
 /// Whether such a token may come next, be it too deep.
@@ -24,21 +26,44 @@ fn may_come(recognizer: &Recognizer, kind: TokenKind) -> bool
     }
 }
 
+/// A recognizer for which the same may come.
+fn copy_of(recognizer: &Recognizer) -> Recognizer
+    ensures { frames_of result.stack ≡ frames_of recognizer.now.stack }
+{
+    let mut stack = ArrayVec::<(u64, Frame), 777>::new();
+    let Ok(()) = stack.try_extend_from_slice(&recognizer.stack) else {
+        unreachable!();
+    };
+    Recognizer { stack }
+}
+
+/// Whether a `;` makes a snippet of the tokens.
+fn is_whole_with_semicolon(recognizer: &Recognizer) -> bool
+    ensures { (ks : List Kind) → IsBehind ks (frames_of recognizer.now.stack) → MatchBool result (IsSnippet (ks ++ token.Semicolon ∷ [])) (IsSnippet (ks ++ token.Semicolon ∷ []) → ⊥) }
+{
+    // what was read stays as it is
+    let mut ahead = copy_of(recognizer);
+    match ahead.advance(TokenKind::Semicolon) {
+        Advance::Taken => ahead.is_whole(),
+        Advance::TooDeep | Advance::Refused => false,
+    }
+}
+
 /// Whether a `;` is all that is missing. Where a block could begin in its place, that `;` would be an empty statement.
-fn lacks_semicolon(recognizer: &mut Recognizer) -> bool
-    ensures { (ks : List Kind) → IsBehind ks (frames_of recognizer.old.stack) → MatchBool result (LacksSemicolon ks) (LacksSemicolon ks → ⊥) }
+fn lacks_semicolon(recognizer: &Recognizer) -> bool
+    ensures { (ks : List Kind) → IsBehind ks (frames_of recognizer.now.stack) → MatchBool result (LacksSemicolon ks) (LacksSemicolon ks → ⊥) }
 {
     if may_come(recognizer, TokenKind::LeftBrace) {
         return false;
     }
-    match recognizer.advance(TokenKind::Semicolon) {
-        Advance::Taken => recognizer.is_whole(),
+    match recognizer.looks(TokenKind::Semicolon) {
+        Advance::Taken => is_whole_with_semicolon(recognizer),
         Advance::TooDeep | Advance::Refused => false,
     }
 }
 
 /// What a text is that has no fault, where all its tokens were taken.
-fn judge_whole(recognizer: &mut Recognizer, tokens: &[Token]) -> Completeness
+fn judge_whole(recognizer: &Recognizer, tokens: &[Token]) -> Completeness
     requires { IsBehind (kinds tokens.now) (frames_of recognizer.now.stack) }
     ensures { IsGiven (kinds tokens.now) at_end result }
 {
@@ -104,24 +129,18 @@ fn judge_faulty(
 }
 
 /// What a text is by how far its tokens lead.
-fn judge(
-    recognizer: &mut Recognizer,
-    tokens: &[Token],
-    reading: Reading,
-    fault: Option<LexFault>,
-) -> Completeness
-    requires behind { IsBehind (kinds (take reading.taken tokens.now)) (frames_of recognizer.now.stack) }
-    requires longest { IsLongest tokens.now reading.taken reading.longest }
-    requires halt { Halts tokens.now reading.taken reading.halt }
-    ensures { IsGiven (kinds (counted_of tokens.now reading.taken reading.halt)) (stop_of fault reading.halt) result }
+fn judge(reader: &Reader, tokens: &[Token], halt: Halt, fault: Option<LexFault>) -> Completeness
+    requires read { HasRead tokens.now reader.now }
+    requires halt { Halts tokens.now reader.now.taken halt }
+    ensures { IsGiven (kinds (counted_of tokens.now reader.now.taken halt)) (stop_of fault halt) result }
 {
-    match reading.halt {
+    match halt {
         Halt::AtEnd => match fault {
-            None => judge_whole(recognizer, tokens),
-            Some(fault) => judge_faulty(recognizer, tokens, reading.longest, fault),
+            None => judge_whole(&reader.recognizer, tokens),
+            Some(fault) => judge_faulty(&reader.recognizer, tokens, reader.longest, fault),
         },
-        Halt::TooDeep => begun(reading.longest),
-        Halt::Refused => begun(reading.longest),
+        Halt::TooDeep => begun(reader.longest),
+        Halt::Refused => begun(reader.longest),
     }
 }
 
@@ -134,6 +153,28 @@ fn end_of_first(tokens: &[Token], count: usize) -> u32
     tokens[count - 1].span.to
 }
 
+impl Reader {
+    /// Reads on, and tells whether the text is whole, and where its first snippet ends, in bytes.
+    ///
+    /// The tokens are those of the text, or where it has a fault those before the first, whose kind is `fault`, as `lex` of `jsh_lex` gives them. Those that were taken
+    /// already aren't read again.
+    pub fn analyze(&mut self, text: &str, tokens: &[Token], fault: Option<LexFault>) -> Completion
+        requires short { length text.now < 2 ^ 32 }
+        requires read { HasRead tokens.now self.old }
+        ensures completion { IsCompletion text.now tokens.now fault result }
+        ensures read { HasRead tokens.now self.new }
+        ensures longest { result.kind ≡ completeness.Complete → (0 < self.new.longest) × (result.end ≡ end_of (take self.new.longest tokens.now)) }
+    {
+        let halt = self.read(tokens);
+        let kind = judge(self, tokens, halt, fault);
+        let end = match kind {
+            Completeness::Complete => end_of_first(tokens, self.longest),
+            _ => text.len() as u32,
+        };
+        Completion { kind, end }
+    }
+}
+
 /// Whether a text is whole, and where its first snippet ends, in bytes.
 ///
 /// The tokens are those of the text, or where it has a fault those before the first, whose kind is `fault`, as `lex` of `jsh_lex` gives them.
@@ -141,12 +182,5 @@ pub fn analyze(text: &str, tokens: &[Token], fault: Option<LexFault>) -> Complet
     requires short { length text.now < 2 ^ 32 }
     ensures { IsCompletion text.now tokens.now fault result }
 {
-    let mut recognizer = Recognizer::new(Start::Snippet);
-    let reading = read(&mut recognizer, tokens);
-    let kind = judge(&mut recognizer, tokens, reading, fault);
-    let end = match kind {
-        Completeness::Complete => end_of_first(tokens, reading.longest),
-        _ => text.len() as u32,
-    };
-    Completion { kind, end }
+    Reader::new().analyze(text, tokens, fault)
 }

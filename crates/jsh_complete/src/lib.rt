@@ -11,3 +11,4 @@ mod tests;
 pub use analysis::analyze;
 pub use completion::{Completeness, Completion};
 pub use laws::one_completion;
+pub use reading::Reader;

@@ -1,12 +1,10 @@
 //! How far the tokens of a text lead.
 
-ghost use Rattle.std.specs.Prelude.{◌≡◌, take};
-ghost use Rattle.jsh_recognizer.specs.Recognizing.{first, kinds};
-ghost use Rattle.jsh_recognizer.specs.Stacks.{frames_of};
-ghost use Rattle.jsh_recognizer.specs.declared.recognizer.Start.TheVariants as start;
-ghost use Rattle.jsh_complete.specs.Reading.{IsBehind, IsLongest, Halts};
+ghost use Rattle.std.specs.Prelude.{◌≡◌, List};
+ghost use Rattle.jsh_tree.specs.declared.token.Token.{Token as Lexed};
+ghost use Rattle.jsh_complete.specs.Reading.{HasRead, Halts};
 
-use jsh_recognizer::{Advance, Recognizer};
+use jsh_recognizer::{Advance, Recognizer, Start};
 use jsh_tree::Token;
 
 /// Why no more tokens were taken.
@@ -20,45 +18,45 @@ pub enum Halt {
     Refused,
 }
 
-/// How far the tokens of a text lead.
-#[derive(Clone, Copy)]
-pub struct Reading {
+/// How far the tokens of a text were read. Where the text goes on, it is read on from there.
+#[derive(Drop)]
+pub struct Reader {
+    pub recognizer: Recognizer,
     /// How many tokens were taken.
     pub taken: usize,
     /// How many the longest snippet has that they begin with, or 0 where they begin with none.
     pub longest: usize,
-    pub halt: Halt,
 }
 
-/// Takes tokens as long as they may come.
-pub fn read(recognizer: &mut Recognizer, tokens: &[Token]) -> Reading
-    requires { frames_of recognizer.now.stack ≡ first start.Snippet }
-    ensures behind { IsBehind (kinds (take result.taken tokens.now)) (frames_of recognizer.new.stack) }
-    ensures longest { IsLongest tokens.now result.taken result.longest }
-    ensures halt { Halts tokens.now result.taken result.halt }
-{
-    let mut longest = 0;
-    for (taken, token) in tokens.iter().enumerate() {
-        match recognizer.advance(token.kind) {
-            Advance::Taken => {}
-            Advance::TooDeep => return Reading {
-                taken,
-                longest,
-                halt: Halt::TooDeep,
-            },
-            Advance::Refused => return Reading {
-                taken,
-                longest,
-                halt: Halt::Refused,
-            },
-        }
-        if recognizer.is_whole() {
-            longest = taken + 1;
+impl Reader {
+    /// Nothing is read.
+    pub fn new() -> Reader
+        ensures { (ts : List Lexed) → HasRead ts result }
+    {
+        Reader {
+            recognizer: Recognizer::new(Start::Snippet),
+            taken: 0,
+            longest: 0,
         }
     }
-    Reading {
-        taken: tokens.len(),
-        longest,
-        halt: Halt::AtEnd,
+
+    /// Takes tokens as long as they may come.
+    pub(crate) fn read(&mut self, tokens: &[Token]) -> Halt
+        requires { HasRead tokens.now self.old }
+        ensures read { HasRead tokens.now self.new }
+        ensures halt { Halts tokens.now self.new.taken result }
+    {
+        while self.taken < tokens.len() {
+            match self.recognizer.advance(tokens[self.taken].kind) {
+                Advance::Taken => {}
+                Advance::TooDeep => return Halt::TooDeep,
+                Advance::Refused => return Halt::Refused,
+            }
+            self.taken += 1;
+            if self.recognizer.is_whole() {
+                self.longest = self.taken;
+            }
+        }
+        Halt::AtEnd
     }
 }

@@ -2,8 +2,9 @@
 
 ghost use Rattle.std.specs.Prelude.{◌<◌, ◌^◌, length};
 
-use crate::{Completeness, Completion, analyze};
-use jsh_lex::{LexError, lex};
+use crate::{Completeness, Completion, Reader, analyze};
+use jsh_lex::{LexError, LexFault, lex};
+use jsh_tree::Token;
 use std::alloc::{AllocError, Global};
 use std::process::Abort;
 use std::test::Fail;
@@ -425,6 +426,63 @@ fn expressions_are_whole_or_cut(rt: HostRuntime) -> Result<(), Fail> {
 #[test]
 fn faults_end_a_text(rt: HostRuntime) -> Result<(), Fail> {
     check_all(&rt, rt.alloc(), &FAULTS)
+}
+
+/// Checks that a reader that is given one token after another says of each front what is said of it alone, and last of all with the fault.
+fn check_reader(
+    rt: &impl Abort,
+    alloc: Global,
+    text: &str,
+    tokens: &[Token],
+    fault: Option<LexFault>,
+) -> Result<(), Fail>
+    requires { length text.now < 2 ^ 32 }
+{
+    let mut reader = Reader::new();
+    let mut front = Vec::new(alloc);
+    for token in tokens {
+        front.push(*token)?;
+        let found = reader.analyze(text, front.as_slice(), None);
+        assert_eq!(rt;
+            found,
+            analyze(text, front.as_slice(), None),
+            "a front of {:?}",
+            text
+        );
+    }
+    let found = reader.analyze(text, front.as_slice(), fault);
+    assert_eq!(rt;
+        found,
+        analyze(text, front.as_slice(), fault),
+        "all of {:?}",
+        text
+    );
+    Ok(())
+}
+
+fn check_readers(rt: &impl Abort, alloc: Global, rows: &[Row]) -> Result<(), Fail> {
+    for (text, _, _) in rows {
+        let text: &str = *text;
+        assert!(rt; text.len() < 0x1_0000_0000);
+        match lex(alloc, text) {
+            Ok(tokens) => check_reader(rt, alloc, text, &tokens, None)?,
+            Err(LexError::Fault { kind, before, .. }) => {
+                check_reader(rt, alloc, text, before.as_slice(), Some(kind))?
+            }
+            Err(LexError::NoMemory) => return Err(AllocError)?,
+        }
+    }
+    Ok(())
+}
+
+#[test]
+fn a_text_is_read_on(rt: HostRuntime) -> Result<(), Fail> {
+    check_readers(&rt, rt.alloc(), &EXAMPLES)?;
+    check_readers(&rt, rt.alloc(), &BLANKS)?;
+    check_readers(&rt, rt.alloc(), &STATEMENTS)?;
+    check_readers(&rt, rt.alloc(), &DECLARATIONS)?;
+    check_readers(&rt, rt.alloc(), &EXPRESSIONS)?;
+    check_readers(&rt, rt.alloc(), &FAULTS)
 }
 
 /// Checks each front of a text that is cut into these pieces. No piece of it is a snippet of its own before the end, so each front ends where it is cut.
