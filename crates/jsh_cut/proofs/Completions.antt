@@ -12,7 +12,7 @@ use Rattle.jsh_recognizer.specs.Recognizing.{first, kinds}
 use Rattle.jsh_recognizer.proofs.Stopped.{whole_may_stop}
 use Rattle.jsh_complete.specs.declared.completion.Completeness.TheVariants as completeness
 use Rattle.jsh_complete.specs.declared.completion.Completion.{Completion}
-use Rattle.jsh_complete.specs.Completeness.{Stop, Counts, all, some, Rule, no_tokens, else_may_follow, whole, lacks_semicolon, lacks_more, begins_whole, otherwise, IsSnippet, IsEndOfLongest, IsCompletion, by_rule, end_of}
+use Rattle.jsh_complete.specs.Completeness.{Stop, Counts, all, some, whole, begins_whole, IsSnippet, IsEndOfLongest, IsCompletion, by_rule, end_of}
 use Rattle.jsh_complete.proofs.Total.{completes}
 use Rattle.jsh_complete.proofs.Unique.{one}
 use Rattle.jsh_cut.specs.Commands.{completion, fault_of}
@@ -24,7 +24,7 @@ unfolding completion
 is_completion text c is =
     one text (tokens text).tokens (fault_of (tokens text)) c _ is (completes text (tokens text).tokens (fault_of (tokens text))).1
 
-no_empty_snippet : IsSnippet [] → ⊥
+pub no_empty_snippet : IsSnippet [] → ⊥
 no_empty_snippet is = let stops = whole_may_stop start.Snippet 256 [] (first start.Snippet) at_end is in absurd cc
 
 snippet_ends : (text : List ℕ) (end : ℕ) (ts : List Token) → AreTokensBehind text end ts → IsSnippet (kinds ts) → IsCharBoundary text (end_of ts) × (0 < end_of ts)
@@ -53,3 +53,9 @@ first_ends text ts fault c b (by_rule _ counts applies none kind end) is = absur
 pub complete_ends : (text : List ℕ) (c : Completion) → IsUtf8 text → IsCompletion text (tokens text).tokens (fault_of (tokens text)) c →
     c.kind ≡ completeness.Complete → IsCharBoundary text c.end × (0 < c.end)
 complete_ends text c u is = first_ends text (tokens text).tokens (fault_of (tokens text)) c (tokens_stand text u) is
+
+-- So does the one that is said of it.
+pub first_end : (text : List ℕ) → IsUtf8 text → (completion text).kind ≡ completeness.Complete → IsCharBoundary text (completion text).end × (0 < (completion text).end)
+unfolding completion
+first_end text u is =
+    complete_ends text (completes text (tokens text).tokens (fault_of (tokens text))).0 u (completes text (tokens text).tokens (fault_of (tokens text))).1 is

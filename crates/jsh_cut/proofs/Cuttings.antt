@@ -1,6 +1,8 @@
 -- How a text is cut, snippet by snippet.
-use Rattle.std.proofs.Common.{◌≡◌, ℕ, zero, suc, ◌+◌, ◌<◌, ◌≤◌, List, [], ◌∷◌, ◌++◌, length, drop, Bool, true, false, refl, sym, ap, subst, ◌∙◌, arith, append_assoc, length-append, length-drop}
+use Rattle.std.proofs.Common.{◌≡◌, ℕ, zero, suc, ◌<◌, ◌≤◌, List, [], ◌∷◌, ◌++◌, length, drop, Bool, true, false, refl, sym, ap, ◌∙◌, arith, append_assoc, length-drop}
 use Rattle.std.specs.Prelude.{nat_lt, slice_range, if◌then◌else◌}
+use Rattle.std.specs.Str.{IsUtf8}
+use Rattle.std.proofs.lemmas.Str.{IsUtf8-drop}
 use Rattle.jsh_complete.specs.declared.completion.Completeness.{Completeness}
 use Rattle.jsh_complete.specs.declared.completion.Completeness.TheVariants as completeness
 use Rattle.jsh_complete.specs.declared.completion.Completion.{Completion}
@@ -9,7 +11,8 @@ use Rattle.jsh_cut.specs.declared.command.Command.TheVariants as command
 use Rattle.jsh_cut.specs.declared.held.Held.{Held}
 use Rattle.jsh_cut.specs.declared.held.Held.TheVariants as held
 use Rattle.jsh_cut.specs.declared.held.Gives.{Gives}
-use Rattle.jsh_cut.specs.Commands.{completion, begin_of, first_source, source_of, most_source, submits, waits, nothing_more, by_kind, analyzed, by_text, with_command, with_commands, held_text, is_command_line, is_slash_line, ends_before, submitted_before, text_before, by_line, by_command, cut_line}
+use Rattle.jsh_cut.specs.Commands.{completion, begin_of, first_source, source_of, most_source, submits, waits, by_kind, analyzed, by_text, with_command, with_commands, held_text}
+use Rattle.jsh_cut.proofs.Completions.{first_end}
 
 -- What was made so far, with what the rest gives, is what was given first with what the text gives.
 pub record Leads (made : List Command) (rest : List ℕ) (given : List Command) (text : List ℕ) : Type 0 where
@@ -65,6 +68,53 @@ leads_end_at (suc most) made given rest text kind gives room same is settled =
 pub leads_end : (made given : List Command) (rest text : List ℕ) (kind : Completeness) (gives : Gives) → Leads made rest given text → kind ≡ (completion rest).kind →
     ((onward : List ℕ → Gives) → gives ≡ with_commands made (by_kind rest onward kind)) → gives ≡ with_commands given (by_text text)
 leads_end made given rest text kind gives leads = leads_end_at leads.most made given rest text kind gives leads.room leads.same
+
+-- ---- as many rounds as a text has bytes are enough
+
+same_kind : (text : List ℕ) (f g : List ℕ → Gives) (kind : Completeness) →
+    (kind ≡ completeness.Complete → f (drop (completion text).end text) ≡ g (drop (completion text).end text)) → by_kind text f kind ≡ by_kind text g kind
+same_kind text f g completeness.Empty same = refl
+same_kind text f g completeness.Complete same = ap (with_command (command.Eval (first_source text))) (same refl)
+same_kind text f g completeness.CompleteWithSemi same = refl
+same_kind text f g completeness.Unknown same = refl
+same_kind text f g completeness.ConsideredIncomplete same = refl
+same_kind text f g completeness.DefinitelyIncomplete same = refl
+
+enough : (most other : ℕ) (text : List ℕ) → IsUtf8 text → length text < most → length text < other → analyzed most text ≡ analyzed other text
+enough zero other text u room more = absurd (omega arith)
+enough (suc most) zero text u room more = absurd (omega arith)
+enough (suc most) (suc other) text u room more =
+    let end = (completion text).end in
+    same_kind text (λ r. analyzed most r) (λ r. analyzed other r) (completion text).kind
+    (λ is.
+    let ends = first_end text u is in
+    let within : end ≤ length text = ends.0.0 in
+    let some : 0 < end = ends.1 in
+    let shorter : length (drop end text) < length text = omega (arith, length-drop end text) in
+    enough most other (drop end text) (IsUtf8-drop text end u ends.0) (omega arith) (omega arith))
+
+-- A whole snippet that a text begins with is submitted, and what stands behind it gives what it gives alone.
+pub snippet_and_rest : (given : List Command) (text behind : List ℕ) (c : Completion) (gives : Gives) → IsUtf8 behind → c ≡ completion text →
+    c.kind ≡ completeness.Complete → behind ≡ drop c.end text → 0 < c.end → c.end ≤ length text →
+    gives ≡ with_commands (given ++ command.Eval (slice_range text (begin_of text) c.end) ∷ []) (by_text behind) → gives ≡ with_commands given (by_text text)
+snippet_and_rest given text behind c gives u is kind drops some within told =
+    let made = given ++ command.Eval (slice_range text (begin_of text) c.end) ∷ [] in
+    let leads = leads_on given given text behind text c (leads_first given text) is kind drops some within in
+    told ∙ ap (with_commands made) (enough (suc (length behind)) leads.most behind u (omega arith) leads.room) ∙ leads.same
+
+-- any other text gives what its kind says
+pub by_its_kind : (given : List Command) (text : List ℕ) (kind : Completeness) (gives : Gives) → kind ≡ (completion text).kind →
+    ((onward : List ℕ → Gives) → gives ≡ with_commands given (by_kind text onward kind)) → gives ≡ with_commands given (by_text text)
+by_its_kind given text kind gives is told = leads_end given given text text kind gives (leads_first given text) is told
+
+-- ---- texts that wait
+
+pub waits_on : (waiting : Held) (source : List ℕ) (long : Bool) → long ≡ nat_lt most_source (length source) → long ≡ false →
+    waits waiting source ≡ record { commands = []; held = waiting; exits = false }
+waits_on waiting source long is short = rw (sym is ∙ short)
+
+pub waits_no_more : (waiting : Held) (source : List ℕ) (long : Bool) → long ≡ nat_lt most_source (length source) → long ≡ true → waits waiting source ≡ submits source
+waits_no_more waiting source long is too = rw (sym is ∙ too)
 
 -- ---- what is held is no longer
 

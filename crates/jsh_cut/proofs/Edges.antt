@@ -1,5 +1,5 @@
 -- What is left of a text without characters at its ends.
-use Rattle.std.proofs.Common.{◌≡◌, ℕ, zero, suc, ◌+◌, ◌-◌, ◌<◌, Bool, true, false, List, [], ◌∷◌, ◌++◌, length, take, drop, get_or, reverse, refl, sym, ap, ◌∙◌, arith, length-append}
+use Rattle.std.proofs.Common.{◌≡◌, ℕ, suc, ◌+◌, ◌-◌, ◌<◌, Bool, true, false, List, [], ◌∷◌, ◌++◌, length, take, drop, get_or, reverse, refl, sym, ap, ◌∙◌, arith, length-append}
 use Rattle.std.proofs.Math.Seq.{drop-cons, take-append_seam, drop-append_seam}
 use Rattle.std.proofs.lemmas.Bool.Decides.{nat_tests}
 use Rattle.std.proofs.lemmas.List.{reverse-append, reverse-reverse, length-reverse}
@@ -8,10 +8,10 @@ use Rattle.jsh_cut.specs.declared.edge.Edge.{Edge}
 use Rattle.jsh_cut.specs.declared.edge.Edge.TheVariants.{White, Blank, BlankOrReturn}
 use Rattle.jsh_cut.specs.Scans.{is_outer}
 
-drops : (p : ℕ → Bool) (c : ℕ) (cs : List ℕ) → p c ≡ true → drop_while p (c ∷ cs) ≡ drop_while p cs
+pub drops : (p : ℕ → Bool) (c : ℕ) (cs : List ℕ) → p c ≡ true → drop_while p (c ∷ cs) ≡ drop_while p cs
 drops p c cs h = rw h
 
-keeps : (p : ℕ → Bool) (c : ℕ) (cs : List ℕ) → p c ≡ false → drop_while p (c ∷ cs) ≡ c ∷ cs
+pub keeps : (p : ℕ → Bool) (c : ℕ) (cs : List ℕ) → p c ≡ false → drop_while p (c ∷ cs) ≡ c ∷ cs
 keeps p c cs h = rw h
 
 -- The characters that don't count are of ASCII.

@@ -1,6 +1,13 @@
 pub mod Edges
 pub mod Ends
 pub mod Completions
+pub mod Rests
+pub mod Moved
+pub mod Placed
 pub mod Slashes
 pub mod Cuttings
+pub mod Beginnings
 pub mod Lines
+pub mod Outer
+pub mod Faults
+pub mod Onwards

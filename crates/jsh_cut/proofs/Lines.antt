@@ -1,8 +1,7 @@
 -- What one line more gives, case by case.
-use Rattle.std.proofs.Common.{◌≡◌, ℕ, suc, ◌+◌, ◌≤◌, List, [], ◌∷◌, ◌++◌, length, Bool, true, false, refl, sym, ap, subst, ◌∙◌, arith, length-append}
+use Rattle.std.proofs.Common.{◌≡◌, ℕ, suc, ◌+◌, ◌≤◌, List, [], ◌∷◌, ◌++◌, length, Bool, true, false, refl, sym, subst, arith, length-append}
 use Rattle.std.specs.Prelude.{◌||◌, if◌then◌else◌, Result, IfOk}
 use Rattle.std.proofs.lemmas.Result.{IfOk-weaker}
-use Rattle.jsh_cut.specs.declared.command.Command.{Command}
 use Rattle.jsh_cut.specs.declared.command.Command.TheVariants as command
 use Rattle.jsh_cut.specs.declared.held.Held.{Held}
 use Rattle.jsh_cut.specs.declared.held.Held.TheVariants as held

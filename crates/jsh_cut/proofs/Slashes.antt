@@ -1,6 +1,6 @@
 -- How the test of a slash line is made.
 use borrow.Author.Tests.{eq-eqb, ne_eqb}
-use Rattle.std.proofs.Common.{◌≡◌, ℕ, ◌≤◌, Bool, true, false, List, [], ◌∷◌, length, get_or, refl, sym, ap, ◌∙◌, arith}
+use Rattle.std.proofs.Common.{◌≡◌, ℕ, ◌≤◌, Bool, true, false, List, [], ◌∷◌, length, get_or, refl, arith}
 use Rattle.std.specs.Prelude.{◌==◌, ◌&&◌, ◌||◌, nat_eq}
 use Rattle.std.specs.Char.{is_ascii_alphabetic}
 use Rattle.jsh_cut.specs.Commands.{begins_command}

@@ -1,14 +1,15 @@
 use crate::command::Command;
-use jsh_tree::{Seq, SrcText};
+use crate::waiting::Waiting;
+use jsh_tree::Seq;
 
 /// The text that waits for a line.
 #[derive(Debug, Drop)]
 pub enum Held {
     Nothing,
     /// The text is a snippet, and more may follow.
-    MayEnd(SrcText),
+    MayEnd(Waiting),
     /// More must follow.
-    MustGoOn(SrcText),
+    MustGoOn(Waiting),
 }
 
 /// What a line gives.

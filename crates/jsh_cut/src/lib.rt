@@ -5,19 +5,25 @@
 ghost use Rattle.std.specs.Prelude.{◌≡◌, ◌+◌, ◌^◌, ◌<◌, ◌≤◌, ◌++◌, ◌∷◌, [], true, length, IfOk};
 ghost use Rattle.jsh_cut.specs.Commands as spec;
 
+mod behind;
 mod command;
 mod edge;
 mod held;
 mod line;
+mod onward;
+mod rest;
 mod scan;
 mod text;
+mod waiting;
 
+use behind::cut_behind;
 pub use command::Command;
 pub use held::{Gives, Held};
 use jsh_tree::{Seq, SrcText};
 use line::{ends_before, is_slash_line, trim};
 use std::alloc::{AllocError, Global};
-use text::{cut_text, join, submit};
+use text::eval;
+pub use waiting::Waiting;
 
 /// Commands, and what a line gives that is a command.
 fn cut_command(alloc: Global, mut commands: Vec<Command>, line: &str) -> Result<Gives, AllocError>
@@ -35,20 +41,6 @@ fn cut_command(alloc: Global, mut commands: Vec<Command>, line: &str) -> Result<
     })
 }
 
-/// Commands, and what a line gives behind a text.
-fn cut_behind(
-    alloc: Global,
-    commands: Vec<Command>,
-    text: &str,
-    line: &str,
-) -> Result<Gives, AllocError>
-    requires { length text.now + length line.now + 1 < 2 ^ 32 }
-    ensures { IfOk result (λ gives. gives ≡ spec.with_commands commands.items (spec.by_text (text.now ++ (line.now ++ 10 ∷ [])))) }
-{
-    let joined = join(alloc, text, line)?;
-    cut_text(alloc, commands, joined.as_str())
-}
-
 /// Commands, and what a line gives where nothing is held.
 fn cut_first(alloc: Global, commands: Vec<Command>, line: &str) -> Result<Gives, AllocError>
     requires { length line.now + 1 < 2 ^ 32 }
@@ -57,7 +49,7 @@ fn cut_first(alloc: Global, commands: Vec<Command>, line: &str) -> Result<Gives,
     if is_slash_line(line) {
         cut_command(alloc, commands, line)
     } else {
-        cut_behind(alloc, commands, "", line)
+        cut_behind(alloc, commands, Waiting::new(alloc)?, line)
     }
 }
 
@@ -72,13 +64,13 @@ pub fn cut_line(alloc: Global, held: Held, line: &str) -> Result<Gives, AllocErr
         Held::Nothing => cut_first(alloc, commands, line),
         Held::MayEnd(text) => {
             if ends_before(line) {
-                commands.push(submit(alloc, text.as_str())?)?;
+                commands.push(eval(alloc, text.source())?)?;
                 cut_first(alloc, commands, line)
             } else {
-                cut_behind(alloc, commands, text.as_str(), line)
+                cut_behind(alloc, commands, text, line)
             }
         }
-        Held::MustGoOn(text) => cut_behind(alloc, commands, text.as_str(), line),
+        Held::MustGoOn(text) => cut_behind(alloc, commands, text, line),
     }
 }
 
@@ -90,7 +82,7 @@ pub fn cut_end(alloc: Global, held: Held) -> Result<Seq<Command>, AllocError>
     let mut commands = Vec::new(alloc);
     match held {
         Held::Nothing => {}
-        Held::MayEnd(text) | Held::MustGoOn(text) => commands.push(submit(alloc, text.as_str())?)?,
+        Held::MayEnd(text) | Held::MustGoOn(text) => commands.push(eval(alloc, text.source())?)?,
     }
     Ok(Seq::from_vec(commands))
 }

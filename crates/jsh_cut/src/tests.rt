@@ -52,6 +52,70 @@ const SNIPPETS: [Row; 22] = [
     ("1 +\r\n2\r", "E<1 +\r\n2>", "", ""),
 ];
 
+/// Several snippets in one text, with what may stand between them and behind the last whole one. Places are bytes, of which some characters have more.
+const SEVERAL: [Row; 12] = [
+    (
+        "f(); /* a */ g(); /* b */ h(); // c",
+        "E<f();>E<g();>E<h();>",
+        "",
+        "",
+    ),
+    (
+        " /* a; b */ f() ; /**/ { g(); }/* c */h()",
+        "E<f() ;>E<{ g(); }>E<h()>",
+        "",
+        "",
+    ),
+    // a fault behind whole snippets
+    ("f(); g(); h # i ", "E<f();>E<g();>E<h # i>", "", ""),
+    ("f(); g(); # h", "E<f();>E<g();>E<# h>", "", ""),
+    ("f(); /* a */ g(); \"h", "E<f();>E<g();>E<\"h>", "", ""),
+    // a rest that waits
+    (
+        "f(); /* a */ if (b) g(); // c",
+        "E<f();>",
+        "?< /* a */ if (b) g(); // c\n>",
+        "E<if (b) g();>",
+    ),
+    (
+        "f(); g(); { h(); /* a */\n}",
+        "E<f();>E<g();>E<{ h(); /* a */\n}>",
+        "",
+        "",
+    ),
+    (
+        "f(); /* a */ { g();",
+        "E<f();>",
+        "+< /* a */ { g();\n>",
+        "E<{ g();>",
+    ),
+    // characters of two, three and four bytes
+    (
+        "s = \"\u{e9}\u{20ac}\"; t = \"\u{1d11e}\"; u",
+        "E<s = \"\u{e9}\u{20ac}\";>E<t = \"\u{1d11e}\";>E<u>",
+        "",
+        "",
+    ),
+    (
+        "s = \"\u{20ac}\"; /* \u{e9} */ f(1,",
+        "E<s = \"\u{20ac}\";>",
+        "+< /* \u{e9} */ f(1,\n>",
+        "E<f(1,>",
+    ),
+    (
+        "s = \"\u{1d11e}\"; t; /* \u{e9}",
+        "E<s = \"\u{1d11e}\";>E<t;>",
+        "+< /* \u{e9}\n>",
+        "E</* \u{e9}>",
+    ),
+    (
+        "s = \"\u{20ac}\"; \u{e9} # \u{e9}",
+        "E<s = \"\u{20ac}\";>E<\u{e9} # \u{e9}>",
+        "",
+        "",
+    ),
+];
+
 /// White space and comments.
 const BLANKS: [Row; 17] = [
     ("", "", "", ""),
@@ -147,6 +211,63 @@ const COMMANDS: [Row; 17] = [
     ("1\n/exit", "E<1>X", "", ""),
 ];
 
+/// Texts that grow by many lines, with comments over several lines, and lines that close one and have more behind it.
+const GROWING: [Row; 16] = [
+    (
+        "class A {\n\n/* c\n\n c */ int x; /* d\n*/ int y;\n\n// e\n\n}",
+        "E<class A {\n\n/* c\n\n c */ int x; /* d\n*/ int y;\n\n// e\n\n}>",
+        "",
+        "",
+    ),
+    (
+        "int f() {\n/* c\n * { \" '\n\n */ return /* d */ 1; /* e\n\n*/\n}\n2",
+        "E<int f() {\n/* c\n * { \" '\n\n */ return /* d */ 1; /* e\n\n*/\n}>E<2>",
+        "",
+        "",
+    ),
+    (
+        "  /* c\n*/ /* d\n*/ 1 +\n\n2; 3 + /* e\n\n*/ 4; 5",
+        "E<1 +\n\n2;>E<3 + /* e\n\n*/ 4;>E<5>",
+        "",
+        "",
+    ),
+    ("/* c\n\n*/", "", "", ""),
+    (
+        "/* c\n\n*/ /* d\n",
+        "",
+        "+</* c\n\n*/ /* d\n\n>",
+        "E</* c\n\n*/ /* d>",
+    ),
+    // neither `*` at the end of a line and `/` on the next close a comment, nor the `/` that stands in `/*/`
+    ("{ /* c *\n/ */ }", "E<{ /* c *\n/ */ }>", "", ""),
+    ("{ /*/\n*/ }", "E<{ /*/\n*/ }>", "", ""),
+    ("{ /*\n/ /* **/ }", "E<{ /*\n/ /* **/ }>", "", ""),
+    (
+        "f( /* \u{e9}\n\n\u{e9} */ \u{e9},\n\u{e9}\n)",
+        "E<f( /* \u{e9}\n\n\u{e9} */ \u{e9},\n\u{e9}\n)>",
+        "",
+        "",
+    ),
+    (
+        "if (a) b(); /* c\nd */ /* e\n\n*/ else c();",
+        "E<if (a) b(); /* c\nd */ /* e\n\n*/ else c();>",
+        "",
+        "",
+    ),
+    (
+        "if (a) b(); /* c\n\n*/",
+        "",
+        "?<if (a) b(); /* c\n\n*/\n>",
+        "E<if (a) b();>",
+    ),
+    ("1 + /* c\n/exit\n*/ 2", "E<1 + /* c\n/exit\n*/ 2>", "", ""),
+    // a comment that is open is what is wrong, and then something else
+    ("{ /* c\n\n*/ # }\n1", "E<{ /* c\n\n*/ # }>E<1>", "", ""),
+    ("{\n\n\"abc\n}", "E<{\n\n\"abc>E<}>", "", ""),
+    ("{ /* c\n*/ ) x\n1", "E<{ /* c\n*/ ) x>E<1>", "", ""),
+    ("\t \n  { \n\n \t\n", "", "+<  { \n\n \t\n\n>", "E<{>"),
+];
+
 fn length_of(held: &Held) -> usize
     ensures { result ≡ length (held_text held.now) }
 {
@@ -237,8 +358,18 @@ fn lines_are_collected_until_they_are_a_snippet(rt: HostRuntime) -> Result<(), F
 }
 
 #[test]
+fn a_text_has_several_snippets(rt: HostRuntime) -> Result<(), Fail> {
+    check_all(&rt, rt.alloc(), &SEVERAL)
+}
+
+#[test]
 fn white_space_and_comments_are_no_snippets(rt: HostRuntime) -> Result<(), Fail> {
     check_all(&rt, rt.alloc(), &BLANKS)
+}
+
+#[test]
+fn texts_grow_line_by_line(rt: HostRuntime) -> Result<(), Fail> {
+    check_all(&rt, rt.alloc(), &GROWING)
 }
 
 #[test]
@@ -281,6 +412,16 @@ fn statements(alloc: Global, count: u32) -> Result<String, AllocError> {
         line.push_str("f();")?;
     }
     Ok(line)
+}
+
+#[test]
+fn a_line_has_many_snippets(rt: HostRuntime) -> Result<(), Fail> {
+    let line = statements(rt.alloc(), 20_000)?;
+    assert!(rt; line.len() < 0x4000_0000);
+    let gives = cut_line(rt.alloc(), Held::Nothing, line.as_str())?;
+    let left = length_of(&gives.held);
+    assert_eq!(rt; (gives.commands.as_slice().len(), left), (20_000, 0));
+    Ok(())
 }
 
 #[test]

@@ -1,6 +1,6 @@
 //! Texts that are held: what they submit, and what is left of them.
 
-ghost use Rattle.std.specs.Prelude.{ℕ, List, ◌≡◌, ◌≢◌, ◌++◌, ◌∷◌, [], ◌^◌, ◌<◌, length, string_bytes, IfOk};
+ghost use Rattle.std.specs.Prelude.{ℕ, List, ◌≡◌, ◌≢◌, ◌^◌, ◌<◌, length, IfOk};
 ghost use Rattle.jsh_complete.specs.declared.completion.Completeness.TheVariants as completeness;
 ghost use Rattle.jsh_cut.specs.declared.command.Command.TheVariants as command;
 ghost use Rattle.jsh_cut.specs.Commands as spec;
@@ -8,42 +8,29 @@ ghost use Rattle.jsh_cut.specs.declared.held.Gives.{Gives};
 
 use crate::command::Command;
 use crate::held::{Gives, Held};
-use crate::scan::{completion_of, first_source, scan_of, source};
+use crate::rest::{beginning_of, first_source, rest_source, tokens_behind};
+use crate::scan::scan_of;
+use crate::waiting::Waiting;
 use jsh_complete::Completeness;
 use jsh_tree::{Seq, SrcText};
 use std::alloc::{AllocError, Global};
 
 /// The bytes that a source may have.
-const MOST_SOURCE: usize = 65_536;
+pub const MOST_SOURCE: usize = 65_536;
 
 /// The command to evaluate a source.
-fn eval(alloc: Global, source: &str) -> Result<Command, AllocError>
+pub fn eval(alloc: Global, source: &str) -> Result<Command, AllocError>
     ensures { IfOk result (λ made. made ≡ command.Eval source.now) }
 {
     Ok(Command::Eval(SrcText::from_text(alloc, source)?))
 }
 
-/// The command to evaluate what a text submits.
-pub fn submit(alloc: Global, text: &str) -> Result<Command, AllocError>
-    requires { length text.now < 2 ^ 32 }
-    ensures { IfOk result (λ made. made ≡ command.Eval (spec.source_of text.now)) }
-{
-    let scan = scan_of(alloc, text)?;
-    eval(alloc, source(text, &scan))
-}
-
-/// The text with the line behind it, and the line's end.
-pub fn join(alloc: Global, text: &str, line: &str) -> Result<String, AllocError>
-    ensures { IfOk result (λ joined. string_bytes joined ≡ text.now ++ (line.now ++ 10 ∷ [])) }
-{
-    let mut joined = String::from_str(alloc, text)?;
-    joined.push_str(line)?;
-    joined.push('\n')?;
-    Ok(joined)
-}
-
 /// Commands, and the last one to evaluate a source.
-fn submit_last(alloc: Global, mut commands: Vec<Command>, source: &str) -> Result<Gives, AllocError>
+pub fn submit_last(
+    alloc: Global,
+    mut commands: Vec<Command>,
+    source: &str,
+) -> Result<Gives, AllocError>
     ensures { IfOk result (λ gives. gives ≡ spec.with_commands commands.items (spec.submits source.now)) }
 {
     commands.push(eval(alloc, source)?)?;
@@ -81,6 +68,7 @@ fn settle(
     kind: Completeness,
     source: &str,
 ) -> Result<Gives, AllocError>
+    requires short { length text.now < 2 ^ 32 }
     requires open { kind ≢ completeness.Complete }
     requires source { source.now ≡ spec.source_of text.now }
     ensures { IfOk result (λ gives. (onward : List ℕ → Gives) → gives ≡ spec.with_commands commands.items (spec.by_kind text.now onward kind)) }
@@ -92,11 +80,11 @@ fn settle(
             exits: false,
         }),
         Completeness::ConsideredIncomplete => {
-            let held = Held::MayEnd(SrcText::from_text(alloc, text)?);
+            let held = Held::MayEnd(Waiting::of(alloc, text)?);
             wait(alloc, commands, held, source)
         }
         Completeness::DefinitelyIncomplete => {
-            let held = Held::MustGoOn(SrcText::from_text(alloc, text)?);
+            let held = Held::MustGoOn(Waiting::of(alloc, text)?);
             wait(alloc, commands, held, source)
         }
         Completeness::Complete | Completeness::CompleteWithSemi | Completeness::Unknown => {
@@ -105,22 +93,30 @@ fn settle(
     }
 }
 
-/// Commands, and what a text gives.
+/// Commands, and what a text gives. It is lexed once, and behind each snippet only the tokens that are left are read.
 pub fn cut_text(alloc: Global, mut commands: Vec<Command>, text: &str) -> Result<Gives, AllocError>
     requires { length text.now < 2 ^ 32 }
     ensures { IfOk result (λ gives. gives ≡ spec.with_commands commands.items (spec.by_text text.now)) }
 {
-    let mut rest = text;
+    let scan = scan_of(alloc, text)?;
+    let mut tokens = scan.tokens.as_slice();
+    let mut base = 0;
     loop {
-        let scan = scan_of(alloc, rest)?;
-        let completion = completion_of(rest, &scan);
-        match completion.kind {
+        let rest = &text[base..];
+        let beginning = beginning_of(rest, base, tokens, scan.fault);
+        match beginning.kind {
             Completeness::Complete => {
-                let end = completion.end as usize;
-                commands.push(eval(alloc, first_source(rest, &scan, end))?)?;
-                rest = &rest[end..];
+                commands.push(eval(alloc, first_source(rest, base, tokens, beginning.end))?)?;
+                tokens = tokens_behind(tokens, beginning.count);
+                base = beginning.end;
             }
-            kind => return settle(alloc, commands, rest, kind, source(rest, &scan)),
+            kind => return settle(
+                alloc,
+                commands,
+                rest,
+                kind,
+                rest_source(rest, base, tokens, scan.fault),
+            ),
         }
     }
 }

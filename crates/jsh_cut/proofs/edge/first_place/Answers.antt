@@ -1,4 +1,4 @@
-use Rattle.std.proofs.Common.{◌≡◌, ◌∙◌, sym, true, get_or, arith}
+use Rattle.std.proofs.Common.{◌≡◌, ◌∙◌, true, get_or, arith}
 use Rattle.std.proofs.lemmas.Str.{IsCharBoundary-start, IsCharBoundary-after_ascii}
 use Rattle.jsh_cut.specs.Scans.{is_outer}
 use Rattle.jsh_cut.proofs.Edges.{outer-ascii, front_drops}

@@ -1,5 +1,4 @@
-use Rattle.std.proofs.Common.{◌≡◌, ◌∙◌, ℕ, ◌≤◌, List, true, false, ap, sym, drop, length, get_or, subst, arith}
-use Rattle.std.specs.Char.{is_ascii_alphabetic}
+use Rattle.std.proofs.Common.{◌≡◌, ◌∙◌, ap, sym, drop}
 use Rattle.jsh_lex.specs.Chars.{drop_while}
 use Rattle.jsh_cut.specs.Commands.{begins_command, is_space}
 use Rattle.jsh_cut.proofs.Edges.{front_part}
