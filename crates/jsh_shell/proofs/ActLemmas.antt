@@ -6,12 +6,13 @@ use Rattle.std.specs.Io.KnownBytes.{append_known}
 use Rattle.jsh_snippet.specs.declared.acts.Act.{Act}
 use Rattle.jsh_snippet.specs.declared.acts.Act.TheVariants as act
 use Rattle.jsh_snippet.specs.declared.acts.Entry.{Entry}
+use Rattle.jsh_snippet.specs.declared.acts.Question.TheVariants as question
 use Rattle.jsh_snippet.specs.declared.replies.Reply.{Reply}
 use Rattle.jsh_snippet.specs.declared.replies.ReplyBody.{ReplyBody}
 use Rattle.jsh_snippet.specs.declared.replies.ReplyBody.TheVariants as body
 use Rattle.jsh_render.specs.Texts.{shown}
-use Rattle.jsh_shell.specs.Lines.{Command}
-use Rattle.jsh_shell.specs.Lines.Command.{Eval}
+use Rattle.jsh_cut.specs.declared.command.Command.{Command}
+use Rattle.jsh_cut.specs.declared.command.Command.TheVariants.{Eval, Invalid}
 use Rattle.jsh_core.specs.declared.world.RunView.{RunView}
 use Rattle.jsh_core.specs.State.{State, numbered}
 use Rattle.jsh_core.specs.Snippets.{run_of, submitted}
@@ -456,3 +457,72 @@ turns-part-by client run thread history after f e cut = turns-part client run hi
 pub open-turn-kept : (client thread : ℕ) (history after : List Entry) (reply : Reply) → IsOpen client history →
     after ≡ history ++ kept (by client (act.Turn thread 256)) reply ∷ [] → IsOpen client after
 open-turn-kept client thread history after reply o grows = open-turn client thread (done_steps 256 reply.body) history after o grows
+
+-- ---- lines that no command is
+
+-- the question what such a line is
+abbrev ask : List ℕ → Act
+ask line = act.Ask (question.Invalid line)
+
+-- the progress behind that question
+abbrev behind_ask : Progress → List Command → ReplyBody → Progress
+behind_ask p more reply = record p { commands = more; limited = is_limit reply }
+
+goes-ask : (client : ℕ) (s : State) (p : Progress) (line : List ℕ) (more : List Command) → IsBetween s (Invalid line ∷ more) p →
+    Goes default_budget client s p (by client (ask line)) (behind_ask p more (step s (by client (ask line))).reply.body)
+goes-ask client s p line more b = goes-own default_budget client s p _ (ask line) b.has_left (rw (b.phase, b.left) (refl, refl))
+
+-- the client may go on behind it
+pub open-ask : (client : ℕ) (history after : List Entry) (line : List ℕ) → IsOpen client history → after ≡ history ++ by client (ask line) ∷ [] → IsOpen client after
+open-ask client history after line o grows =
+    subst (λ (h : List Entry). IsOpen client h) (sym grows) (open-push client history (by client (ask line)) o refl refl o.states)
+
+pub open-ask-fails : (why : Halt) (client : ℕ) (history after : List Entry) (held now : Option (List ℕ)) (line : List ℕ) → IsOpen client history →
+    Fails why history after (by client (ask line)) held now → IsOpen client after
+open-ask-fails why client history after held now line o (inl same) = subst (λ (h : List Entry). IsOpen client h) (sym same.0) o
+open-ask-fails why client history after held now line o (inr broken) = open-ask client history after line o broken.0.grows
+
+between-not-cut : Between ≡ CutShort → ⊥
+between-not-cut e = cc
+
+-- the question was asked and answered
+pub asks : (client : ℕ) (history after : List Entry) (held now : Option (List ℕ)) (line : List ℕ) (reply : Reply) →
+    Shows history after (by client (ask line)) reply held now → Serves client history after held now (Invalid line ∷ [])
+asks client history after held now line reply shows = record {
+  each = λ p more b. (
+    behind_ask p more (step (state_of history) (by client (ask line))).reply.body,
+    advances-one default_budget client history after held now p _ (ask line) _ shows.grows
+        (goes-ask client (state_of history) p line more b)
+        (transcript-own client (state_of history) (ask line) refl)
+        (shows.written ∙ ap (λ (r : Reply). append_known held (shown (by client (ask line)) r)) shows.reply),
+    record {
+      phase = b.phase;
+      left = refl;
+      limited = refl;
+      has_left = b.has_left;
+      last_turn = subst (λ (s : State). p.last_turn ≤ length s.world.threads) (sym (state_of-push history after (by client (ask line)) shows.grows)) b.last_turn;
+    },
+  );
+}
+
+-- it was not asked, or a part of the answer was written
+pub asks-fails : (why : Halt) (client : ℕ) (history after : List Entry) (held now : Option (List ℕ)) (line : List ℕ) →
+    Fails why history after (by client (ask line)) held now → ServesPart why client history after held now (Invalid line ∷ [])
+asks-fails why client history after held now line (inl same) = record {
+  each = λ p more b. (
+    p,
+    subst (λ (h : List Entry). Halts why default_budget client history h held now p p) (sym same.0)
+        (subst (λ (x : Option (List ℕ)). Halts why default_budget client history history held x p p) (sym same.1)
+        (halts-here why default_budget client history held p (λ e. cc) (λ e. same.2) b.has_left)),
+  );
+}
+asks-fails why client history after held now line (inr broken) = record {
+  each = λ p more b. (
+    behind_ask p more (step (state_of history) (by client (ask line))).reply.body,
+    halts-one why default_budget client history after held now p _ (ask line) _ broken.0.part.0 broken.0.grows
+        (goes-ask client (state_of history) p line more b)
+        (transcript-own client (state_of history) (ask line) refl)
+        broken.0.part.1 (λ e. absurd (broken.1 e)) (λ e. absurd (broken.1 e))
+        (λ e. absurd (between-not-cut (sym b.phase ∙ e))) b.has_left,
+  );
+}

@@ -1,4 +1,4 @@
-pub mod Commands
+pub mod Onward
 pub mod Walk
 pub mod Lengths
 pub mod ActLemmas

@@ -3,13 +3,14 @@ use Rattle.std.proofs.Common.{◌≡◌, ◌≢◌, ℕ, ◌==◌, ◌⊎◌, if
 use Rattle.jsh_snippet.specs.declared.acts.Act.{Act}
 use Rattle.jsh_snippet.specs.declared.acts.Act.TheVariants as act
 use Rattle.jsh_snippet.specs.declared.acts.Entry.{Entry}
+use Rattle.jsh_snippet.specs.declared.acts.Question.TheVariants as question
 use Rattle.jsh_snippet.specs.declared.replies.ReplyBody.{ReplyBody}
-use Rattle.jsh_shell.specs.Lines.{Command}
-use Rattle.jsh_shell.specs.Lines.Command.{Eval}
+use Rattle.jsh_cut.specs.declared.command.Command.{Command}
+use Rattle.jsh_cut.specs.declared.command.Command.TheVariants.{Eval, Invalid}
 use Rattle.jsh_core.specs.declared.world.RunView.{RunView}
 use Rattle.jsh_core.specs.State.{State}
 use Rattle.jsh_core.specs.Step.{step}
-use Rattle.jsh_shell.specs.Progress.{Phase, Progress, IsTurn, Submits, OwnGoes, Goes, Follows}
+use Rattle.jsh_shell.specs.Progress.{Phase, Progress, IsTurn, Submits, Asks, OwnGoes, Goes, Follows}
 use Rattle.jsh_shell.specs.Progress.Phase.{Between, Evaluating, CutShort}
 
 -- two progresses that are one, but that a turn was cut short in one of them
@@ -71,6 +72,12 @@ turn budget run used thread steps s after p q r f g = record {
 submits : (s : State) (p q r : Progress) (cs : List Command) (source : List ℕ) (reply : ReplyBody) → Submits s p cs source reply q → Submits s p cs source reply r → q ≡ r
 submits s p q r [] source reply f g = absurd f
 submits s p q r (Eval text ∷ cs) source reply f g = f.1 ∙ sym g.1
+submits s p q r (Invalid text ∷ cs) source reply f g = absurd f
+
+asks : (p q r : Progress) (cs : List Command) (line : List ℕ) (reply : ReplyBody) → Asks p cs line reply q → Asks p cs line reply r → q ≡ r
+asks p q r [] line reply f g = absurd f
+asks p q r (Eval text ∷ cs) line reply f g = absurd f
+asks p q r (Invalid text ∷ cs) line reply f g = f.1 ∙ sym g.1
 
 left : (budget : ℕ) (s : State) (p q : Progress) (at : Phase) (after : State) (reply : ReplyBody) → OwnGoes budget s p at act.Leave after reply q → q ≡ record p { has_left = true }
 left budget s p q Between after reply f = f
@@ -80,6 +87,7 @@ left budget s p q CutShort after reply f = f
 -- an own entry
 own : (budget : ℕ) (s : State) (p q r : Progress) (at : Phase) (what : Act) (after : State) (reply : ReplyBody) → OwnGoes budget s p at what after reply q → OwnGoes budget s p at what after reply r → Alike q r
 own budget s p q r Between (act.Submit source) after reply f g = alike-equal q r (submits s p q r p.commands source reply f g)
+own budget s p q r Between (act.Ask (question.Invalid line)) after reply f g = alike-equal q r (asks p q r p.commands line reply f g)
 own budget s p q r (Evaluating run used) (act.Turn thread steps) after reply f g = turn budget run used thread steps s after p q r f g
 own budget s p q r (Evaluating run used) (act.Collect asked) after reply f g = alike-equal q r (f.3 ∙ sym g.3)
 own budget s p q r at act.Leave after reply f g = alike-equal q r (left budget s p q at after reply f ∙ sym (left budget s p r at after reply g))

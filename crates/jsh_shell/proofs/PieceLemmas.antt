@@ -1,25 +1,30 @@
 -- How the lines of a piece of input are served.
-use Rattle.std.proofs.Common.{◌≡◌, ℕ, ◌+◌, ◌==◌, ◌||◌, Bool, true, false, List, [], ◌∷◌, ◌++◌, Option, None, Some, MatchOption, take, drop, refl, ap, sym, subst, ◌∙◌, append_assoc, append-nil}
+use Rattle.std.proofs.Common.{◌≡◌, ℕ, ◌+◌, ◌==◌, ◌||◌, Bool, true, false, List, [], ◌∷◌, ◌++◌, map, Option, None, Some, MatchOption, take, drop, refl, ap, sym, subst, ◌∙◌, append_assoc, append-nil}
 use Rattle.std.proofs.lemmas.List.{drop-drop}
 use Rattle.jsh_snippet.specs.declared.acts.Entry.{Entry}
-use Rattle.jsh_lines.specs.Lines.{Cut, IsFirstLineFeed, cut, has_line_feed}
-use Rattle.jsh_shell.specs.Lines.{Command, evals}
+use Rattle.jsh_lines.specs.Lines.{Cut, IsFirstLineFeed, as_text, cut, has_line_feed}
 use Rattle.jsh_lines.proofs.Cuts.{cut-line, cut-no_line, has_line_feed-uncut}
-use Rattle.jsh_shell.proofs.Commands.{evals-append}
+use Rattle.jsh_cut.specs.declared.command.Command.{Command}
+use Rattle.jsh_cut.specs.declared.held.Held.{Held}
+use Rattle.jsh_cut.specs.declared.held.Gives.{Gives}
+use Rattle.jsh_cut.specs.Commands.{cut_line, cut_lines, onward, with_commands}
+use Rattle.jsh_shell.specs.Cutting.{ServesCut, piece_gives}
 use Rattle.jsh_shell.specs.declared.halts.Halt.{Halt}
 use Rattle.jsh_shell.specs.declared.halts.Halt.TheVariants as halt
+use Rattle.jsh_shell.specs.declared.lines.Behind.{Behind}
 use Rattle.jsh_shell.specs.Serving.{Serves, ServesPart}
+use Rattle.jsh_shell.proofs.Onward.{with_both, onward_on, onward_out, onward_front}
 use Rattle.jsh_shell.proofs.ServeLemmas.{serves-nothing, serves-append, serves-part-append, serves-part-more, part-for-memory}
 
--- Of all these bytes, some commands were served, and these bytes are left.
-pub record IsAlong (client : ℕ) (first now : List Entry) (x y : Option (List ℕ)) (bytes left : List ℕ) : Type 0 where
+-- Of what these bytes give behind a text, some commands were served, and these bytes are left behind another text.
+pub record IsAlong (client : ℕ) (first now : List Entry) (x y : Option (List ℕ)) (before held : Held) (bytes left : List ℕ) : Type 0 where
   pub served : List Command
   pub serves : Serves client first now x y served
-  pub commands : evals (cut bytes).whole ≡ served ++ evals (cut left).whole
+  pub gives : piece_gives before bytes ≡ with_commands served (piece_gives held left)
   pub rest : (cut bytes).rest ≡ (cut left).rest
 
-pub along-start : (client : ℕ) (h : List Entry) (x : Option (List ℕ)) (bytes : List ℕ) → IsAlong client h h x x bytes bytes
-along-start client h x bytes = record { served = []; serves = serves-nothing client h x; commands = refl; rest = refl }
+pub along-start : (client : ℕ) (h : List Entry) (x : Option (List ℕ)) (before : Held) (bytes : List ℕ) → IsAlong client h h x x before before bytes bytes
+along-start client h x before bytes = record { served = []; serves = serves-nothing client h x; gives = refl; rest = refl }
 
 or_cases : (t rest more : Bool) → (rest ≡ false → more ≡ false) → (t || rest) ≡ false → (t || more) ≡ false
 or_cases true rest more along e = cc
@@ -29,53 +34,97 @@ no_feed-append : (a b : List ℕ) → has_line_feed a ≡ false → has_line_fee
 no_feed-append [] b x y = y
 no_feed-append (v ∷ a) b x y = or_cases (v == 10) (has_line_feed a) (has_line_feed (a ++ b)) (λ none. no_feed-append a b none y) x
 
--- the first line of what was held and the rest of a piece
-cut-held : (held rest : List ℕ) (at : ℕ) → (cut held).rest ≡ held → IsFirstLineFeed rest at →
-    cut (held ++ rest) ≡ record { whole = (held ++ take at rest) ∷ (cut (drop (at + 1) rest)).whole; rest = (cut (drop (at + 1) rest)).rest }
-cut-held held rest at uncut feed =
-    ap (λ (r : List ℕ). cut (held ++ r)) feed.2 ∙ ap cut (sym (append_assoc held (take at rest) (10 ∷ drop (at + 1) rest)))
-    ∙ cut-line (held ++ take at rest) (drop (at + 1) rest) (no_feed-append held (take at rest) (has_line_feed-uncut held uncut) feed.1)
+-- the first line of what was begun and the rest of a piece
+cut-begun : (begun rest : List ℕ) (at : ℕ) → (cut begun).rest ≡ begun → IsFirstLineFeed rest at →
+    cut (begun ++ rest) ≡ record { whole = (begun ++ take at rest) ∷ (cut (drop (at + 1) rest)).whole; rest = (cut (drop (at + 1) rest)).rest }
+cut-begun begun rest at uncut feed =
+    ap (λ (r : List ℕ). cut (begun ++ r)) feed.2 ∙ ap cut (sym (append_assoc begun (take at rest) (10 ∷ drop (at + 1) rest)))
+    ∙ cut-line (begun ++ take at rest) (drop (at + 1) rest) (no_feed-append begun (take at rest) (has_line_feed-uncut begun uncut) feed.1)
 
-line_first : (held rest : List ℕ) (at : ℕ) → (cut held).rest ≡ held → IsFirstLineFeed rest at →
-    evals (cut (held ++ rest)).whole ≡ evals ((held ++ take at rest) ∷ []) ++ evals (cut (drop (at + 1) rest)).whole
-line_first held rest at uncut feed =
-    ap (λ (c : Cut). evals c.whole) (cut-held held rest at uncut feed) ∙ evals-append ((held ++ take at rest) ∷ []) (cut (drop (at + 1) rest)).whole
+line_first : (held : Held) (begun rest : List ℕ) (at : ℕ) → (cut begun).rest ≡ begun → IsFirstLineFeed rest at →
+    piece_gives held (begun ++ rest) ≡ onward (cut_line held (as_text (begun ++ take at rest))) (λ h. piece_gives h (drop (at + 1) rest))
+line_first held begun rest at uncut feed = ap (λ (c : Cut). gives_of c) (cut-begun begun rest at uncut feed)
+  where
+    gives_of : Cut → Gives
+    gives_of c = cut_lines held (map as_text c.whole)
+
+-- what all the bytes give, with the first line that is left
+all_gives : (client : ℕ) (a b : List Entry) (x y : Option (List ℕ)) (before held : Held) (bytes begun rest : List ℕ) (at : ℕ) →
+    (along : IsAlong client a b x y before held bytes (begun ++ rest)) → (cut begun).rest ≡ begun → IsFirstLineFeed rest at →
+    piece_gives before bytes ≡ with_commands along.served (onward (cut_line held (as_text (begun ++ take at rest))) (λ h. piece_gives h (drop (at + 1) rest)))
+all_gives client a b x y before held bytes begun rest at along uncut feed =
+    along.gives ∙ ap (with_commands along.served) (line_first held begun rest at uncut feed)
 
 -- a line more was served
-pub along-line : (client : ℕ) (a b c : List Entry) (x y z : Option (List ℕ)) (bytes held rest : List ℕ) (at : ℕ) → IsAlong client a b x y bytes (held ++ rest) → (cut held).rest ≡ held →
-    IsFirstLineFeed rest at → Serves client b c y z (evals ((held ++ take at rest) ∷ [])) → IsAlong client a c x z bytes (drop (at + 1) rest)
-along-line client a b c x y z bytes held rest at along uncut feed s = record {
-  served = along.served ++ evals ((held ++ take at rest) ∷ []);
-  serves = serves-append client a b c x y z along.served (evals ((held ++ take at rest) ∷ [])) along.serves s;
-  commands = along.commands ∙ ap (λ (cs : List Command). along.served ++ cs) (line_first held rest at uncut feed)
-      ∙ sym (append_assoc along.served (evals ((held ++ take at rest) ∷ [])) (evals (cut (drop (at + 1) rest)).whole));
-  rest = along.rest ∙ ap (λ (k : Cut). k.rest) (cut-held held rest at uncut feed);
-}
+pub along-line : (client : ℕ) (a b c : List Entry) (x y z : Option (List ℕ)) (before held : Held) (behind : Behind) (bytes begun rest : List ℕ) (at : ℕ) →
+    IsAlong client a b x y before held bytes (begun ++ rest) → (cut begun).rest ≡ begun → IsFirstLineFeed rest at →
+    ServesCut client b c y z (cut_line held (as_text (begun ++ take at rest))) behind → behind.exits ≡ false →
+    IsAlong client a c x z before behind.held bytes (drop (at + 1) rest)
+along-line client a b c x y z before held behind bytes begun rest at along uncut feed s on =
+    let line : Gives = cut_line held (as_text (begun ++ take at rest)) in record {
+      served = along.served ++ line.commands;
+      serves = serves-append client a b c x y z along.served line.commands along.serves s.serves;
+      gives = all_gives client a b x y before held bytes begun rest at along uncut feed
+          ∙ ap (with_commands along.served) (onward_on line (λ h. piece_gives h (drop (at + 1) rest)) (sym s.exits ∙ on))
+          ∙ with_both along.served line.commands (piece_gives line.held (drop (at + 1) rest))
+          ∙ ap (λ (h : Held). with_commands (along.served ++ line.commands) (piece_gives h (drop (at + 1) rest))) (sym s.held);
+      rest = along.rest ∙ ap (λ (k : Cut). k.rest) (cut-begun begun rest at uncut feed);
+    }
+
+-- a line was served that exits
+pub along-exit : (client : ℕ) (a b c : List Entry) (x y z : Option (List ℕ)) (before held : Held) (behind : Behind) (bytes begun rest : List ℕ) (at : ℕ) →
+    IsAlong client a b x y before held bytes (begun ++ rest) → (cut begun).rest ≡ begun → IsFirstLineFeed rest at →
+    ServesCut client b c y z (cut_line held (as_text (begun ++ take at rest))) behind → behind.exits ≡ true →
+    ServesCut client a c x z (piece_gives before bytes) behind
+along-exit client a b c x y z before held behind bytes begun rest at along uncut feed s out =
+    let line : Gives = cut_line held (as_text (begun ++ take at rest)) in
+    let is : piece_gives before bytes ≡ with_commands along.served line =
+    all_gives client a b x y before held bytes begun rest at along uncut feed
+    ∙ ap (with_commands along.served) (onward_out line (λ h. piece_gives h (drop (at + 1) rest)) (sym s.exits ∙ out)) in record {
+      serves = subst (λ (g : Gives). Serves client a c x z g.commands) (sym is)
+          (serves-append client a b c x y z along.served line.commands along.serves s.serves);
+      held = s.held ∙ ap (λ (g : Gives). g.held) (sym is);
+      exits = s.exits ∙ ap (λ (g : Gives). g.exits) (sym is);
+    }
 
 -- the serving of a line halted
-pub along-part : (why : Halt) (client : ℕ) (a b c : List Entry) (x y z : Option (List ℕ)) (bytes held rest : List ℕ) (at : ℕ) → IsAlong client a b x y bytes (held ++ rest) → (cut held).rest ≡ held →
-    IsFirstLineFeed rest at → ServesPart why client b c y z (evals ((held ++ take at rest) ∷ [])) → ServesPart why client a c x z (evals (cut bytes).whole)
-along-part why client a b c x y z bytes held rest at along uncut feed s =
-    subst (λ (cs : List Command). ServesPart why client a c x z cs) (sym (along.commands ∙ ap (λ (cs : List Command). along.served ++ cs) (line_first held rest at uncut feed)))
-    (serves-part-append why client a b c x y z along.served (evals ((held ++ take at rest) ∷ []) ++ evals (cut (drop (at + 1) rest)).whole) along.serves
-    (serves-part-more why client b c y z (evals ((held ++ take at rest) ∷ [])) (evals (cut (drop (at + 1) rest)).whole) s))
+pub along-part : (why : Halt) (client : ℕ) (a b c : List Entry) (x y z : Option (List ℕ)) (before held : Held) (bytes begun rest : List ℕ) (at : ℕ) →
+    IsAlong client a b x y before held bytes (begun ++ rest) → (cut begun).rest ≡ begun → IsFirstLineFeed rest at →
+    ServesPart why client b c y z (cut_line held (as_text (begun ++ take at rest))).commands → ServesPart why client a c x z (piece_gives before bytes).commands
+along-part why client a b c x y z before held bytes begun rest at along uncut feed s =
+    let line : Gives = cut_line held (as_text (begun ++ take at rest)) in
+    let front = onward_front line (λ h. piece_gives h (drop (at + 1) rest)) in
+    subst (λ (cs : List Command). ServesPart why client a c x z cs)
+    (sym (ap (λ (g : Gives). g.commands) (all_gives client a b x y before held bytes begun rest at along uncut feed) ∙ ap (λ (cs : List Command). along.served ++ cs) front.1))
+    (serves-part-append why client a b c x y z along.served (line.commands ++ front.0) along.serves
+    (serves-part-more why client b c y z line.commands front.0 s))
 
 -- want of memory on the way
-pub along-memory : (client : ℕ) (a b : List Entry) (x y : Option (List ℕ)) (bytes left : List ℕ) → IsAlong client a b x y bytes left → ServesPart halt.NoMemory client a b x y (evals (cut bytes).whole)
-along-memory client a b x y bytes left along =
-    subst (λ (cs : List Command). ServesPart halt.NoMemory client a b x y cs) (sym along.commands)
-    (serves-part-append halt.NoMemory client a b b x y y along.served (evals (cut left).whole) along.serves (part-for-memory client b y (evals (cut left).whole)))
+pub along-memory : (client : ℕ) (a b : List Entry) (x y : Option (List ℕ)) (before held : Held) (bytes left : List ℕ) →
+    IsAlong client a b x y before held bytes left → ServesPart halt.NoMemory client a b x y (piece_gives before bytes).commands
+along-memory client a b x y before held bytes left along =
+    subst (λ (g : Gives). ServesPart halt.NoMemory client a b x y g.commands) (sym along.gives)
+    (serves-part-append halt.NoMemory client a b b x y y along.served (piece_gives held left).commands along.serves (part-for-memory client b y (piece_gives held left).commands))
 
 -- no line is left
-pub along-end : (client : ℕ) (a b : List Entry) (x y : Option (List ℕ)) (bytes held rest : List ℕ) → IsAlong client a b x y bytes (held ++ rest) → (cut held).rest ≡ held → has_line_feed rest ≡ false →
-    Serves client a b x y (evals (cut bytes).whole)
-along-end client a b x y bytes held rest along uncut none =
-    subst (λ (cs : List Command). Serves client a b x y cs) (sym (along.commands ∙ ap (λ (k : Cut). along.served ++ evals k.whole) (cut-no_line (held ++ rest) (no_feed-append held rest (has_line_feed-uncut held uncut) none)) ∙ append-nil along.served)) along.serves
+left_none : (begun rest : List ℕ) → (cut begun).rest ≡ begun → has_line_feed rest ≡ false → cut (begun ++ rest) ≡ record { whole = []; rest = begun ++ rest }
+left_none begun rest uncut none = cut-no_line (begun ++ rest) (no_feed-append begun rest (has_line_feed-uncut begun uncut) none)
 
-pub along-rest : (client : ℕ) (a b : List Entry) (x y : Option (List ℕ)) (bytes held rest : List ℕ) → IsAlong client a b x y bytes (held ++ rest) → (cut held).rest ≡ held → has_line_feed rest ≡ false →
-    (cut bytes).rest ≡ held ++ rest
-along-rest client a b x y bytes held rest along uncut none =
-    along.rest ∙ ap (λ (k : Cut). k.rest) (cut-no_line (held ++ rest) (no_feed-append held rest (has_line_feed-uncut held uncut) none))
+pub along-end : (client : ℕ) (a b : List Entry) (x y : Option (List ℕ)) (before held : Held) (bytes begun rest : List ℕ) →
+    IsAlong client a b x y before held bytes (begun ++ rest) → (cut begun).rest ≡ begun → has_line_feed rest ≡ false →
+    ServesCut client a b x y (piece_gives before bytes) (record { held = held; exits = false })
+along-end client a b x y before held bytes begun rest along uncut none =
+    let is : piece_gives before bytes ≡ record { commands = along.served ++ []; held = held; exits = false } =
+    along.gives ∙ ap (λ (k : Cut). with_commands along.served (cut_lines held (map as_text k.whole))) (left_none begun rest uncut none) in record {
+      serves = subst (λ (cs : List Command). Serves client a b x y cs) (sym (ap (λ (g : Gives). g.commands) is ∙ append-nil along.served)) along.serves;
+      held = ap (λ (g : Gives). g.held) (sym is);
+      exits = ap (λ (g : Gives). g.exits) (sym is);
+    }
+
+pub along-rest : (client : ℕ) (a b : List Entry) (x y : Option (List ℕ)) (before held : Held) (bytes begun rest : List ℕ) →
+    IsAlong client a b x y before held bytes (begun ++ rest) → (cut begun).rest ≡ begun → has_line_feed rest ≡ false → (cut bytes).rest ≡ begun ++ rest
+along-rest client a b x y before held bytes begun rest along uncut none =
+    along.rest ∙ ap (λ (k : Cut). k.rest) (left_none begun rest uncut none)
 
 -- what stands behind a line feed
 pub behind-feed : (at : ℕ) (rest : List ℕ) → drop 1 (drop at rest) ≡ drop (at + 1) rest

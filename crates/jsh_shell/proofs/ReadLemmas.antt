@@ -1,70 +1,131 @@
 -- How the pieces that are read are served.
-use Rattle.std.proofs.Common.{◌≡◌, ℕ, ◌+◌, ◌<◌, ◌≤◌, true, false, List, [], ◌∷◌, ◌++◌, Option, IfSome, length, refl, ap, sym, subst, ◌∙◌, arith, append-nil, length-append, inl, inr}
+use Rattle.std.proofs.Common.{◌≡◌, ℕ, ◌+◌, ◌<◌, ◌≤◌, Bool, true, false, not, List, [], ◌∷◌, ◌++◌, map, Option, IfSome, length, refl, ap, sym, subst, ◌∙◌, arith, append_assoc, append-nil, length-append, inl, inr, if◌then◌else◌}
+use Rattle.std.proofs.lemmas.List.{map-append}
 use Rattle.std.specs.Io.KnownBytes.{prepend_known}
 use Rattle.jsh_io.proofs.Known.{prepend_known-prepend_known, prepend_known-nil}
 use Rattle.jsh_snippet.specs.declared.acts.Entry.{Entry}
-use Rattle.jsh_lines.specs.Lines.{Cut, cut}
-use Rattle.jsh_shell.specs.Lines.{Command, evals, commands}
+use Rattle.jsh_lines.specs.Lines.{Cut, as_text, cut, last_lines}
 use Rattle.jsh_lines.proofs.Cuts.{cut-append, cut-rest}
-use Rattle.jsh_shell.proofs.Commands.{evals-append}
+use Rattle.jsh_cut.specs.declared.command.Command.{Command}
+use Rattle.jsh_cut.specs.declared.held.Held.{Held}
+use Rattle.jsh_cut.specs.declared.held.Held.TheVariants as held
+use Rattle.jsh_cut.specs.declared.held.Gives.{Gives}
+use Rattle.jsh_cut.specs.Commands.{commands, cut_end, cut_input, cut_lines, exits, onward, with_commands}
+use Rattle.jsh_shell.specs.Cutting.{ServesCut, closing, ending, piece_gives}
 use Rattle.jsh_shell.specs.declared.halts.Halt.{Halt}
 use Rattle.jsh_shell.specs.declared.halts.Halt.TheVariants as halt
+use Rattle.jsh_shell.specs.declared.lines.Behind.{Behind}
 use Rattle.jsh_shell.specs.Budget.{most_input}
 use Rattle.jsh_shell.specs.Serving.{Serves, ServesPart, IsServedBy, status_of}
+use Rattle.jsh_shell.proofs.Onward.{lines-append, onward_on}
 use Rattle.jsh_shell.proofs.ServeLemmas.{serves-nothing, serves-append, serves-part-append}
 
--- So much was read, its whole lines were served, and its rest is held.
-pub record IsReading (client : ℕ) (first now : List Entry) (left_before left x y : Option (List ℕ)) (rest : List ℕ) (total : ℕ) : Type 0 where
+-- what the whole lines of an input give
+abbrev input_gives : List ℕ → Gives
+input_gives read = piece_gives held.Nothing read
+
+-- So much was read, its whole lines were served, its rest begins a line, and this is held.
+pub record IsReading (client : ℕ) (first now : List Entry) (left_before left x y : Option (List ℕ)) (waiting : Held) (rest : List ℕ) (total : ℕ) : Type 0 where
   pub read : List ℕ
   pub reads : left_before ≡ prepend_known read left
   pub count : length read ≡ total
-  pub held : rest ≡ (cut read).rest
-  pub serves : Serves client first now x y (evals (cut read).whole)
+  pub begun : rest ≡ (cut read).rest
+  pub serves : Serves client first now x y (input_gives read).commands
+  pub held : waiting ≡ (input_gives read).held
+  pub on : (input_gives read).exits ≡ false
 
-pub reading-start : (client : ℕ) (h : List Entry) (left x : Option (List ℕ)) → IsReading client h h left left x x [] 0
-reading-start client h left x = record { read = []; reads = sym (prepend_known-nil left); count = refl; held = refl; serves = serves-nothing client h x }
-
--- the commands of the whole lines
-whole_commands : (read : List ℕ) → commands read false ≡ evals (cut read).whole
-whole_commands read = ap evals (append-nil (cut read).whole)
-
--- the commands of whole lines and a last one
-last_commands : (read rest : List ℕ) → rest ≡ (cut read).rest → commands read true ≡ evals (cut read).whole ++ evals (rest ∷ [])
-last_commands read rest held = evals-append (cut read).whole ((cut read).rest ∷ []) ∙ ap (λ (r : List ℕ). evals (cut read).whole ++ evals (r ∷ [])) (sym held)
-
--- the whole lines with one piece more
-more_commands : (read piece rest : List ℕ) → rest ≡ (cut read).rest → evals (cut (read ++ piece)).whole ≡ evals (cut read).whole ++ evals (cut (rest ++ piece)).whole
-more_commands read piece rest held = ap (λ (c : Cut). evals c.whole) (cut-append read piece) ∙ evals-append (cut read).whole (cut ((cut read).rest ++ piece)).whole
-    ∙ ap (λ (r : List ℕ). evals (cut read).whole ++ evals (cut (r ++ piece)).whole) (sym held)
-
-pub reading-more : (client : ℕ) (a b c : List Entry) (left0 left1 left2 x y z : Option (List ℕ)) (rest piece next : List ℕ) (total now : ℕ) → IsReading client a b left0 left1 x y rest total →
-    left1 ≡ prepend_known piece left2 → now ≡ total + length piece → Serves client b c y z (evals (cut (rest ++ piece)).whole) → next ≡ (cut (rest ++ piece)).rest →
-    IsReading client a c left0 left2 x z next now
-reading-more client a b c left0 left1 left2 x y z rest piece next total now r reads sum s held = record {
-  read = r.read ++ piece;
-  reads = r.reads ∙ ap (prepend_known r.read) reads ∙ prepend_known-prepend_known r.read piece left2;
-  count = length-append r.read piece ∙ ap (λ n. n + length piece) r.count ∙ sym sum;
-  held = held ∙ ap (λ (h : List ℕ). (cut (h ++ piece)).rest) r.held ∙ sym (ap (λ (k : Cut). k.rest) (cut-append r.read piece));
-  serves = subst (λ (cs : List Command). Serves client a c x z cs) (sym (more_commands r.read piece rest r.held))
-      (serves-append client a b c x y z (evals (cut r.read).whole) (evals (cut (rest ++ piece)).whole) r.serves s);
+pub reading-start : (client : ℕ) (h : List Entry) (left x : Option (List ℕ)) → IsReading client h h left left x x held.Nothing [] 0
+reading-start client h left x = record {
+  read = [];
+  reads = sym (prepend_known-nil left);
+  count = refl;
+  begun = refl;
+  serves = serves-nothing client h x;
+  held = refl;
+  on = refl;
 }
 
+-- the commands of the whole lines
+whole_gives : (read : List ℕ) → cut_input read false ≡ input_gives read
+whole_gives read = ap (λ (lines : List (List ℕ)). cut_lines held.Nothing (map as_text lines)) (append-nil (cut read).whole)
+
+whole_commands : (read : List ℕ) → commands read false ≡ (input_gives read).commands
+whole_commands read = append-nil (cut_input read false).commands ∙ ap (λ (g : Gives). g.commands) (whole_gives read)
+
+whole_exits : (read : List ℕ) → exits read false ≡ (input_gives read).exits
+whole_exits read = ap (λ (g : Gives). g.exits) (whole_gives read)
+
+-- what lines give behind those that were served
+gives_behind : (waiting : Held) (read : List ℕ) (lines : List (List ℕ)) → waiting ≡ (input_gives read).held → (input_gives read).exits ≡ false →
+    cut_lines held.Nothing (map as_text ((cut read).whole ++ lines)) ≡ with_commands (input_gives read).commands (cut_lines waiting (map as_text lines))
+gives_behind waiting read lines is on =
+    ap (cut_lines held.Nothing) (map-append as_text (cut read).whole lines)
+    ∙ lines-append held.Nothing (map as_text (cut read).whole) (map as_text lines)
+    ∙ onward_on (input_gives read) (λ h. cut_lines h (map as_text lines)) on
+    ∙ ap (λ (h : Held). with_commands (input_gives read).commands (cut_lines h (map as_text lines))) (sym is)
+
+-- the commands of whole lines and of the end of the input
+last_commands : (waiting : Held) (read rest : List ℕ) → rest ≡ (cut read).rest → waiting ≡ (input_gives read).held → (input_gives read).exits ≡ false →
+    commands read true ≡ (input_gives read).commands ++ ending waiting rest
+last_commands waiting read rest begun is on =
+    let lines : List (List ℕ) = last_lines (cut read).rest in
+    ap (λ (g : Gives). g.commands ++ closing g) (gives_behind waiting read lines is on)
+    ∙ append_assoc (input_gives read).commands (cut_lines waiting (map as_text lines)).commands (closing (cut_lines waiting (map as_text lines)))
+    ∙ ap (λ (r : List ℕ). (input_gives read).commands ++ ending waiting r) (sym begun)
+
+-- the whole lines with one piece more
+more_gives : (waiting : Held) (read piece rest : List ℕ) → rest ≡ (cut read).rest → waiting ≡ (input_gives read).held → (input_gives read).exits ≡ false →
+    input_gives (read ++ piece) ≡ with_commands (input_gives read).commands (piece_gives waiting (rest ++ piece))
+more_gives waiting read piece rest begun is on =
+    ap (λ (c : Cut). cut_lines held.Nothing (map as_text c.whole)) (cut-append read piece)
+    ∙ gives_behind waiting read (cut ((cut read).rest ++ piece)).whole is on
+    ∙ ap (λ (r : List ℕ). with_commands (input_gives read).commands (piece_gives waiting (r ++ piece))) (sym begun)
+
+-- the bytes that were read, with one piece more
+reads_more : (read piece : List ℕ) (left0 left1 left2 : Option (List ℕ)) → left0 ≡ prepend_known read left1 → left1 ≡ prepend_known piece left2 → left0 ≡ prepend_known (read ++ piece) left2
+reads_more read piece left0 left1 left2 reads more = reads ∙ ap (prepend_known read) more ∙ prepend_known-prepend_known read piece left2
+
+counts_more : (read piece : List ℕ) (total : ℕ) → length read ≡ total → length (read ++ piece) ≡ total + length piece
+counts_more read piece total count = length-append read piece ∙ ap (λ n. n + length piece) count
+
+pub reading-more : (client : ℕ) (a b c : List Entry) (left0 left1 left2 x y z : Option (List ℕ)) (waiting : Held) (behind : Behind) (rest piece next : List ℕ) (total now : ℕ) →
+    IsReading client a b left0 left1 x y waiting rest total → left1 ≡ prepend_known piece left2 → now ≡ total + length piece →
+    ServesCut client b c y z (piece_gives waiting (rest ++ piece)) behind → behind.exits ≡ false → next ≡ (cut (rest ++ piece)).rest →
+    IsReading client a c left0 left2 x z behind.held next now
+reading-more client a b c left0 left1 left2 x y z waiting behind rest piece next total now r reads sum s on begun =
+    let gives = more_gives waiting r.read piece rest r.begun r.held r.on in record {
+      read = r.read ++ piece;
+      reads = reads_more r.read piece left0 left1 left2 r.reads reads;
+      count = counts_more r.read piece total r.count ∙ sym sum;
+      begun = begun ∙ ap (λ (h : List ℕ). (cut (h ++ piece)).rest) r.begun ∙ sym (ap (λ (k : Cut). k.rest) (cut-append r.read piece));
+      serves = subst (λ (g : Gives). Serves client a c x z g.commands) (sym gives)
+          (serves-append client a b c x y z (input_gives r.read).commands (piece_gives waiting (rest ++ piece)).commands r.serves s.serves);
+      held = s.held ∙ ap (λ (g : Gives). g.held) (sym gives);
+      on = ap (λ (g : Gives). g.exits) gives ∙ sym s.exits ∙ on;
+    }
+
 -- a read failed
-pub served-failed : (failed_read failed_write : Type 0) (client : ℕ) (a b : List Entry) (left0 left1 left2 x y : Option (List ℕ)) (rest : List ℕ) (total : ℕ) → IsReading client a b left0 left1 x y rest total → left2 ≡ left1 → total < most_input → failed_read →
-    IsServedBy client 3 a b left0 left2 x y failed_read failed_write
-served-failed failed_read failed_write client a b left0 left1 left2 x y rest total r same less failed = record {
+pub served-failed : (failed_read failed_write : Type 0) (client : ℕ) (a b : List Entry) (left0 left1 left2 x y : Option (List ℕ)) (waiting : Held) (rest : List ℕ) (total : ℕ) →
+    IsReading client a b left0 left1 x y waiting rest total → left2 ≡ left1 → total < most_input → failed_read → IsServedBy client 3 a b left0 left2 x y failed_read failed_write
+served-failed failed_read failed_write client a b left0 left1 left2 x y waiting rest total r same less failed = record {
   read = r.read;
   ended = false;
   reads = r.reads ∙ ap (prepend_known r.read) (sym same);
   all_read = λ e. cc;
   few = omega (arith, r.count, less);
-  outcome = inr (inl (refl, refl, subst (λ n. n < most_input) (sym r.count) less, failed, subst (λ (cs : List Command). Serves client a b x y cs) (sym (whole_commands r.read)) r.serves));
+  outcome = inr (inl (
+    refl,
+    whole_exits r.read ∙ r.on,
+    subst (λ n. n < most_input) (sym r.count) less,
+    failed,
+    subst (λ (cs : List Command). Serves client a b x y cs) (sym (whole_commands r.read)) r.serves,
+  ));
 }
 
 -- all that may be read was read
-pub served-most : (failed_read failed_write : Type 0) (client : ℕ) (a b : List Entry) (left0 left1 x y : Option (List ℕ)) (rest : List ℕ) (total : ℕ) → IsReading client a b left0 left1 x y rest total → total ≡ most_input →
-    IsServedBy client 6 a b left0 left1 x y failed_read failed_write
-served-most failed_read failed_write client a b left0 left1 x y rest total r full = record {
+pub served-most : (failed_read failed_write : Type 0) (client : ℕ) (a b : List Entry) (left0 left1 x y : Option (List ℕ)) (waiting : Held) (rest : List ℕ) (total : ℕ) →
+    IsReading client a b left0 left1 x y waiting rest total → total ≡ most_input → IsServedBy client 6 a b left0 left1 x y failed_read failed_write
+served-most failed_read failed_write client a b left0 left1 x y waiting rest total r full = record {
   read = r.read;
   ended = false;
   reads = r.reads;
@@ -73,14 +134,59 @@ served-most failed_read failed_write client a b left0 left1 x y rest total r ful
   outcome = inr (inr (inl (refl, refl, r.count ∙ full, subst (λ (cs : List Command). Serves client a b x y cs) (sym (whole_commands r.read)) r.serves)));
 }
 
+-- the commands were served up to a line that exits
+exit_serves : (client : ℕ) (a b c : List Entry) (left0 left1 x y z : Option (List ℕ)) (waiting : Held) (behind : Behind) (rest piece : List ℕ) (total : ℕ) →
+    (r : IsReading client a b left0 left1 x y waiting rest total) → ServesCut client b c y z (piece_gives waiting (rest ++ piece)) behind →
+    Serves client a c x z (commands (r.read ++ piece) false)
+exit_serves client a b c left0 left1 x y z waiting behind rest piece total r s =
+    subst (λ (cs : List Command). Serves client a c x z cs)
+    (sym (whole_commands (r.read ++ piece) ∙ ap (λ (g : Gives). g.commands) (more_gives waiting r.read piece rest r.begun r.held r.on)))
+    (serves-append client a b c x y z (input_gives r.read).commands (piece_gives waiting (rest ++ piece)).commands r.serves s.serves)
+
+pub served-exit : (failed_read failed_write : Type 0) (client : ℕ) (a b c : List Entry) (left0 left1 left2 x y z : Option (List ℕ)) (waiting : Held) (behind : Behind) (rest piece : List ℕ) (total : ℕ) →
+    IsReading client a b left0 left1 x y waiting rest total → left1 ≡ prepend_known piece left2 → total + length piece < most_input →
+    ServesCut client b c y z (piece_gives waiting (rest ++ piece)) behind → behind.exits ≡ true → IsServedBy client 0 a c left0 left2 x z failed_read failed_write
+served-exit failed_read failed_write client a b c left0 left1 left2 x y z waiting behind rest piece total r reads less s out = record {
+  read = r.read ++ piece;
+  ended = false;
+  reads = reads_more r.read piece left0 left1 left2 r.reads reads;
+  all_read = λ e. cc;
+  few = omega (arith, counts_more r.read piece total r.count, less);
+  outcome = inl (
+    refl,
+    whole_exits (r.read ++ piece) ∙ ap (λ (g : Gives). g.exits) (more_gives waiting r.read piece rest r.begun r.held r.on) ∙ sym s.exits ∙ out,
+    subst (λ n. n < most_input) (sym (counts_more r.read piece total r.count)) less,
+    exit_serves client a b c left0 left1 x y z waiting behind rest piece total r s,
+  );
+}
+
+-- it exits in the piece with which all that may be read was read
+pub served-exit-most : (failed_read failed_write : Type 0) (client : ℕ) (a b c : List Entry) (left0 left1 left2 x y z : Option (List ℕ)) (waiting : Held) (behind : Behind) (rest piece : List ℕ) (total : ℕ) →
+    IsReading client a b left0 left1 x y waiting rest total → left1 ≡ prepend_known piece left2 → total + length piece ≡ most_input →
+    ServesCut client b c y z (piece_gives waiting (rest ++ piece)) behind → IsServedBy client 6 a c left0 left2 x z failed_read failed_write
+served-exit-most failed_read failed_write client a b c left0 left1 left2 x y z waiting behind rest piece total r reads full s = record {
+  read = r.read ++ piece;
+  ended = false;
+  reads = reads_more r.read piece left0 left1 left2 r.reads reads;
+  all_read = λ e. cc;
+  few = subst (λ n. n ≤ most_input) (sym (counts_more r.read piece total r.count ∙ full)) (omega arith);
+  outcome = inr (inr (inl (
+    refl,
+    refl,
+    counts_more r.read piece total r.count ∙ full,
+    exit_serves client a b c left0 left1 x y z waiting behind rest piece total r s,
+  )));
+}
+
 -- nothing is left where a read gives nothing
 pub nothing-left : (left1 left2 : Option (List ℕ)) → left1 ≡ prepend_known [] left2 → IfSome left1 (λ (bytes : List ℕ). bytes ≡ []) → IfSome left2 (λ (rest : List ℕ). rest ≡ [])
 nothing-left left1 left2 reads none = subst (λ (l : Option (List ℕ)). IfSome l (λ (rest : List ℕ). rest ≡ [])) (reads ∙ prepend_known-nil left2) none
 
 -- the input has ended
-pub served-whole : (failed_read failed_write : Type 0) (client : ℕ) (a b c : List Entry) (left0 left1 left2 x y z : Option (List ℕ)) (rest : List ℕ) (total : ℕ) → IsReading client a b left0 left1 x y rest total → left1 ≡ prepend_known [] left2 →
-    IfSome left1 (λ (bytes : List ℕ). bytes ≡ []) → total < most_input → Serves client b c y z (evals (rest ∷ [])) → IsServedBy client 0 a c left0 left2 x z failed_read failed_write
-served-whole failed_read failed_write client a b c left0 left1 left2 x y z rest total r reads none less s = record {
+pub served-whole : (failed_read failed_write : Type 0) (client : ℕ) (a b c : List Entry) (left0 left1 left2 x y z : Option (List ℕ)) (waiting : Held) (rest : List ℕ) (total : ℕ) →
+    IsReading client a b left0 left1 x y waiting rest total → left1 ≡ prepend_known [] left2 → IfSome left1 (λ (bytes : List ℕ). bytes ≡ []) → total < most_input →
+    Serves client b c y z (ending waiting rest) → IsServedBy client 0 a c left0 left2 x z failed_read failed_write
+served-whole failed_read failed_write client a b c left0 left1 left2 x y z waiting rest total r reads none less s = record {
   read = r.read;
   ended = true;
   reads = r.reads ∙ ap (prepend_known r.read) (reads ∙ prepend_known-nil left2);
@@ -90,15 +196,16 @@ served-whole failed_read failed_write client a b c left0 left1 left2 x y z rest 
     refl,
     refl,
     subst (λ n. n < most_input) (sym r.count) less,
-    subst (λ (cs : List Command). Serves client a c x z cs) (sym (last_commands r.read rest r.held))
-        (serves-append client a b c x y z (evals (cut r.read).whole) (evals (rest ∷ [])) r.serves s),
+    subst (λ (cs : List Command). Serves client a c x z cs) (sym (last_commands waiting r.read rest r.begun r.held r.on))
+        (serves-append client a b c x y z (input_gives r.read).commands (ending waiting rest) r.serves s),
   );
 }
 
--- the last line was served no further
-pub served-part-end : (failed_read failed_write : Type 0) (why : Halt) (client status : ℕ) (a b c : List Entry) (left0 left1 left2 x y z : Option (List ℕ)) (rest : List ℕ) (total : ℕ) → IsReading client a b left0 left1 x y rest total → left1 ≡ prepend_known [] left2 →
-    IfSome left1 (λ (bytes : List ℕ). bytes ≡ []) → total ≤ most_input → status ≡ status_of why → (why ≡ halt.SinkFailed → failed_write) → ServesPart why client b c y z (evals (rest ∷ [])) → IsServedBy client status a c left0 left2 x z failed_read failed_write
-served-part-end failed_read failed_write why client status a b c left0 left1 left2 x y z rest total r reads none few is failed s = record {
+-- the end of the input was served no further
+pub served-part-end : (failed_read failed_write : Type 0) (why : Halt) (client status : ℕ) (a b c : List Entry) (left0 left1 left2 x y z : Option (List ℕ)) (waiting : Held) (rest : List ℕ) (total : ℕ) →
+    IsReading client a b left0 left1 x y waiting rest total → left1 ≡ prepend_known [] left2 → IfSome left1 (λ (bytes : List ℕ). bytes ≡ []) → total ≤ most_input →
+    status ≡ status_of why → (why ≡ halt.SinkFailed → failed_write) → ServesPart why client b c y z (ending waiting rest) → IsServedBy client status a c left0 left2 x z failed_read failed_write
+served-part-end failed_read failed_write why client status a b c left0 left1 left2 x y z waiting rest total r reads none few is failed s = record {
   read = r.read;
   ended = true;
   reads = r.reads ∙ ap (prepend_known r.read) (reads ∙ prepend_known-nil left2);
@@ -108,29 +215,31 @@ served-part-end failed_read failed_write why client status a b c left0 left1 lef
     why,
     is,
     failed,
-    subst (λ (cs : List Command). ServesPart why client a c x z cs) (sym (last_commands r.read rest r.held))
-        (serves-part-append why client a b c x y z (evals (cut r.read).whole) (evals (rest ∷ [])) r.serves s),
+    subst (λ (cs : List Command). ServesPart why client a c x z cs) (sym (last_commands waiting r.read rest r.begun r.held r.on))
+        (serves-part-append why client a b c x y z (input_gives r.read).commands (ending waiting rest) r.serves s),
   )));
 }
 
 -- a line of a piece was served no further
-pub served-part-piece : (failed_read failed_write : Type 0) (why : Halt) (client status : ℕ) (a b c : List Entry) (left0 left1 left2 x y z : Option (List ℕ)) (rest piece : List ℕ) (total : ℕ) → IsReading client a b left0 left1 x y rest total → left1 ≡ prepend_known piece left2 →
-    total + length piece ≤ most_input → status ≡ status_of why → (why ≡ halt.SinkFailed → failed_write) → ServesPart why client b c y z (evals (cut (rest ++ piece)).whole) → IsServedBy client status a c left0 left2 x z failed_read failed_write
-served-part-piece failed_read failed_write why client status a b c left0 left1 left2 x y z rest piece total r reads few is failed s = record {
+pub served-part-piece : (failed_read failed_write : Type 0) (why : Halt) (client status : ℕ) (a b c : List Entry) (left0 left1 left2 x y z : Option (List ℕ)) (waiting : Held) (rest piece : List ℕ) (total : ℕ) →
+    IsReading client a b left0 left1 x y waiting rest total → left1 ≡ prepend_known piece left2 → total + length piece ≤ most_input →
+    status ≡ status_of why → (why ≡ halt.SinkFailed → failed_write) → ServesPart why client b c y z (piece_gives waiting (rest ++ piece)).commands → IsServedBy client status a c left0 left2 x z failed_read failed_write
+served-part-piece failed_read failed_write why client status a b c left0 left1 left2 x y z waiting rest piece total r reads few is failed s = record {
   read = r.read ++ piece;
   ended = false;
-  reads = r.reads ∙ ap (prepend_known r.read) reads ∙ prepend_known-prepend_known r.read piece left2;
+  reads = reads_more r.read piece left0 left1 left2 r.reads reads;
   all_read = λ e. cc;
-  few = subst (λ n. n ≤ most_input) (sym (length-append r.read piece ∙ ap (λ n. n + length piece) r.count)) few;
+  few = subst (λ n. n ≤ most_input) (sym (counts_more r.read piece total r.count)) few;
   outcome = inr (inr (inr (
     why,
     is,
     failed,
-    subst (λ (cs : List Command). ServesPart why client a c x z cs) (sym (whole_commands (r.read ++ piece) ∙ more_commands r.read piece rest r.held))
-        (serves-part-append why client a b c x y z (evals (cut r.read).whole) (evals (cut (rest ++ piece)).whole) r.serves s),
+    subst (λ (cs : List Command). ServesPart why client a c x z cs)
+        (sym (whole_commands (r.read ++ piece) ∙ ap (λ (g : Gives). g.commands) (more_gives waiting r.read piece rest r.begun r.held r.on)))
+        (serves-part-append why client a b c x y z (input_gives r.read).commands (piece_gives waiting (rest ++ piece)).commands r.serves s),
   )));
 }
 
--- what is held is no whole line
-pub uncut-held : (held read : List ℕ) → held ≡ (cut read).rest → (cut held).rest ≡ held
-uncut-held held read is = ap (λ (h : List ℕ). (cut h).rest) is ∙ ap (λ (k : Cut). k.rest) (cut-rest read) ∙ sym is
+-- what a line begins with is no whole line
+pub uncut-begun : (begun read : List ℕ) → begun ≡ (cut read).rest → (cut begun).rest ≡ begun
+uncut-begun begun read is = ap (λ (h : List ℕ). (cut h).rest) is ∙ ap (λ (k : Cut). k.rest) (cut-rest read) ∙ sym is

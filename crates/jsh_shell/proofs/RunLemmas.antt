@@ -10,7 +10,8 @@ use Rattle.jsh_io.specs.Count.{Rose, TakesPart}
 use Rattle.jsh_io.specs.Inputs.{IsEmptyWhereTold}
 use Rattle.jsh_snippet.specs.declared.acts.Act.TheVariants as act
 use Rattle.jsh_snippet.specs.declared.acts.Entry.{Entry}
-use Rattle.jsh_shell.specs.Lines.{Command, commands}
+use Rattle.jsh_cut.specs.Commands.{commands, exits}
+use Rattle.jsh_cut.specs.declared.command.Command.{Command}
 use Rattle.jsh_core.specs.State.{State, opening}
 use Rattle.jsh_core.specs.Step.{step}
 use Rattle.jsh_core.specs.History.{state_of, state_after, Allows}
@@ -102,7 +103,7 @@ done_free before p read d less (inr most) = omega (arith, less, most)
 
 -- the status of a client at a limit
 status_at_limit : (status : ℕ) (before : List Entry) (p : Progress) (read : List ℕ) (ended : Bool) (failed_write : Type 0) → (status ≡ 0) ⊎ ((status ≡ 3) ⊎ ((status ≡ 4) ⊎ ((status ≡ 5) ⊎ (status ≡ 6)))) →
-    (status ≡ 0 → IsDone p × (ended ≡ true) × (length read < most_input)) → (status ≡ 3 → IsDone p × (ended ≡ false) × (length read < most_input)) → (status ≡ 4 → failed_write) →
+    (status ≡ 0 → IsDone p × (exits read ended ≡ true) × (length read < most_input)) → (status ≡ 3 → IsDone p × (exits read ended ≡ false) × (length read < most_input)) → (status ≡ 4 → failed_write) →
     IsLimited before p ⊎ (length read ≡ most_input) → (failed_write → ⊥) → (status ≡ 6) ⊎ (status ≡ 5)
 status_at_limit status before p read ended failed_write (inl e) zero three four at none = absurd (done_free before p read (zero e).0 (zero e).2 at)
 status_at_limit status before p read ended failed_write (inr (inl e)) zero three four at none = absurd (done_free before p read (three e).0 (three e).2 at)
@@ -113,7 +114,7 @@ status_at_limit status before p read ended failed_write (inr (inr (inr (inr e)))
 -- the status of a client all of whose commands were served
 served_whole : (failed_read failed_write : Type 0) (status : ℕ) (b journal : List Entry) (given left x y : Option (List ℕ)) (read : List ℕ) (ended : Bool) → journal ≡ b ++ entry_of 1 act.Leave ∷ entry_of 0 act.Close ∷ [] → IsEmptyWhereTold x →
     given ≡ prepend_known read left → (ended ≡ true → IfSome left (λ rest. rest ≡ [])) → length read ≤ most_input → (status ≡ 0) ⊎ ((status ≡ 3) ⊎ (status ≡ 6)) →
-    (status ≡ 0 → (ended ≡ true) × (length read < most_input)) → (status ≡ 3 → (ended ≡ false) × (length read < most_input) × failed_read) → (status ≡ 6 → (ended ≡ false) × (length read ≡ most_input)) →
+    (status ≡ 0 → (exits read ended ≡ true) × (length read < most_input)) → (status ≡ 3 → (exits read ended ≡ false) × (length read < most_input) × failed_read) → (status ≡ 6 → (ended ≡ false) × (length read ≡ most_input)) →
     IsWhole b x y (commands read ended) → IsServed default_budget 1 status journal given left y failed_read failed_write
 served_whole failed_read failed_write status b journal given left x y read ended is empty reads all few some zero three six w = subst (λ (j : List Entry). IsServed default_budget 1 status j given left y failed_read failed_write) (sym same) (record {
   read = read;
@@ -140,10 +141,10 @@ served_whole failed_read failed_write status b journal given left x y read ended
     done : IsDone (record w.q { has_left = true })
     done = record { phase = w.done.phase; commands = w.done.left; limited = w.done.limited }
 
-    ok : status ≡ 0 → IsDone (record w.q { has_left = true }) × (ended ≡ true) × (length read < most_input)
+    ok : status ≡ 0 → IsDone (record w.q { has_left = true }) × (exits read ended ≡ true) × (length read < most_input)
     ok e = (done, (zero e).0, (zero e).1)
 
-    failed : status ≡ 3 → IsDone (record w.q { has_left = true }) × (ended ≡ false) × (length read < most_input)
+    failed : status ≡ 3 → IsDone (record w.q { has_left = true }) × (exits read ended ≡ false) × (length read < most_input)
     failed e = (done, (three e).0, (three e).1)
 
     any : (status ≡ 0) ⊎ ((status ≡ 3) ⊎ (status ≡ 6)) → (status ≡ 0) ⊎ ((status ≡ 3) ⊎ ((status ≡ 4) ⊎ ((status ≡ 5) ⊎ (status ≡ 6))))
@@ -288,8 +289,8 @@ pub is-served : (failed_read failed_write : Type 0) (status : ℕ) (b journal : 
     IsServedBy 1 status (entry_of 0 act.Enter ∷ []) b given left x y failed_read failed_write → IsServed default_budget 1 status journal given left y failed_read failed_write
 is-served failed_read failed_write status b journal given left x y is empty by = from by.outcome
   where
-    whole : (status ≡ 0) ⊎ ((status ≡ 3) ⊎ (status ≡ 6)) → (status ≡ 0 → (by.ended ≡ true) × (length by.read < most_input)) →
-        (status ≡ 3 → (by.ended ≡ false) × (length by.read < most_input) × failed_read) → (status ≡ 6 → (by.ended ≡ false) × (length by.read ≡ most_input)) →
+    whole : (status ≡ 0) ⊎ ((status ≡ 3) ⊎ (status ≡ 6)) → (status ≡ 0 → (exits by.read by.ended ≡ true) × (length by.read < most_input)) →
+        (status ≡ 3 → (exits by.read by.ended ≡ false) × (length by.read < most_input) × failed_read) → (status ≡ 6 → (by.ended ≡ false) × (length by.read ≡ most_input)) →
         Serves 1 (entry_of 0 act.Enter ∷ []) b x y (commands by.read by.ended) → IsServed default_budget 1 status journal given left y failed_read failed_write
     whole some zero three six s = served_whole failed_read failed_write status b journal given left x y by.read by.ended is empty by.reads by.all_read by.few some zero three six (whole_of b x y (commands by.read by.ended) s)
 

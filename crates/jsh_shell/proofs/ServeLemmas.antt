@@ -3,17 +3,15 @@ use Rattle.std.proofs.Common.{◌≡◌, ℕ, ◌-◌, ◌<◌, ◌≤◌, ◌^�
 use Rattle.std.proofs.lemmas.Bool.{cases_lt}
 use Rattle.jsh_io.specs.Count.{Rose}
 use Rattle.jsh_snippet.specs.declared.acts.Entry.{Entry}
-use Rattle.jsh_lines.specs.Lines.{is_blank, as_text}
-use Rattle.jsh_shell.specs.Lines.{Command, evals}
-use Rattle.jsh_shell.specs.Lines.Command.{Eval}
-use Rattle.jsh_shell.proofs.Commands.{evals-blank, evals-line}
+use Rattle.jsh_cut.specs.declared.command.Command.{Command}
+use Rattle.jsh_cut.specs.declared.command.Command.TheVariants.{Eval}
 use Rattle.jsh_core.specs.History.{state_of}
 use Rattle.jsh_shell.specs.declared.halts.Halt.{Halt}
 use Rattle.jsh_shell.specs.declared.halts.Halt.TheVariants as halt
 use Rattle.jsh_shell.specs.Budget.{default_budget}
 use Rattle.jsh_shell.specs.Progress.{Phase, Progress}
 use Rattle.jsh_shell.specs.Progress.Phase.{Between, CutShort}
-use Rattle.jsh_shell.specs.Limited.{IsLimited, IsTooLong, HasRest}
+use Rattle.jsh_shell.specs.Limited.{IsLimited, IsTooLong, HasNoRoomFor, HasRest, text_of}
 use Rattle.jsh_shell.specs.Serving.{Advances, Halts, HasCause, HandsIn, HandsOutPart, IsBetween, IsHandedIn, IsTaken, Serves, ServesPart, Turns, TurnsPart}
 use Rattle.jsh_shell.proofs.Walk.{advances-nothing, advances-append, advances-halts, halts-here}
 
@@ -54,10 +52,10 @@ part-for-memory client history held served = record {
       (p, halts-here halt.NoMemory default_budget client history held p (λ e. cc) (λ e. refl) ready.has_left);
 }
 
--- a snippet that may not be handed in
-pub part-at-limit : (client : ℕ) (history : List Entry) (held : Option (List ℕ)) (text : List ℕ) → (4194304 ≤ length history) ⊎ IsTooLong history (Eval text ∷ []) →
-    ServesPart halt.Limit client history history held held (Eval text ∷ [])
-part-at-limit client history held text why = record {
+-- a command whose text has no room
+pub part-at-limit : (client : ℕ) (history : List Entry) (held : Option (List ℕ)) (command : Command) → (4194304 ≤ length history) ⊎ HasNoRoomFor history (text_of command) →
+    ServesPart halt.Limit client history history held held (command ∷ [])
+part-at-limit client history held command why = record {
   each = λ p more ready.
       (p, halts-here halt.Limit default_budget client history held p (λ e. limited p more ready why) (λ e. absurd (not_cut (sym ready.phase ∙ e))) ready.has_left);
 }
@@ -65,7 +63,7 @@ part-at-limit client history held text why = record {
     not_cut : Between ≡ CutShort → ⊥
     not_cut e = cc
 
-    limited : (p : Progress) (more : List Command) → IsBetween (state_of history) (Eval text ∷ more) p → (4194304 ≤ length history) ⊎ IsTooLong history (Eval text ∷ []) → IsLimited history p
+    limited : (p : Progress) (more : List Command) → IsBetween (state_of history) (command ∷ more) p → (4194304 ≤ length history) ⊎ HasNoRoomFor history (text_of command) → IsLimited history p
     limited p more ready (inl full) = inr (inr (subst (λ (at : Phase). HasRest at p.commands) (sym ready.phase) (subst (λ (cs : List Command). HasRest Between cs) (sym ready.left) tt), full))
     limited p more ready (inr long) = inr (inl (ready.phase, subst (λ (cs : List Command). IsTooLong history cs) (sym ready.left) long))
 
@@ -126,13 +124,3 @@ pub cause-earlier : (why : Halt) (first before after : ℕ) → first ≤ before
 cause-earlier halt.SinkFailed first before after low high cause = rose-earlier first before after low high cause
 cause-earlier halt.NoMemory first before after low high cause = tt
 cause-earlier halt.Limit first before after low high cause = tt
-
--- one more line and what was held before it
-pub serves-line-blank : (client : ℕ) (history : List Entry) (held : Option (List ℕ)) (line : List ℕ) → is_blank line ≡ true → Serves client history history held held (evals (line ∷ []))
-serves-line-blank client history held line blank = subst (λ (cs : List Command). Serves client history history held held cs) (sym (evals-blank line [] blank)) (serves-nothing client history held)
-
-pub serves-line-text : (client : ℕ) (a b : List Entry) (x y : Option (List ℕ)) (line : List ℕ) → is_blank line ≡ false → Serves client a b x y (Eval (as_text line) ∷ []) → Serves client a b x y (evals (line ∷ []))
-serves-line-text client a b x y line some s = subst (λ (cs : List Command). Serves client a b x y cs) (sym (evals-line line [] some)) s
-
-pub part-line-text : (why : Halt) (client : ℕ) (a b : List Entry) (x y : Option (List ℕ)) (line : List ℕ) → is_blank line ≡ false → ServesPart why client a b x y (Eval (as_text line) ∷ []) → ServesPart why client a b x y (evals (line ∷ []))
-part-line-text why client a b x y line some s = subst (λ (cs : List Command). ServesPart why client a b x y cs) (sym (evals-line line [] some)) s

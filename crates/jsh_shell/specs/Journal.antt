@@ -5,7 +5,7 @@ use Rattle.std.specs.Io.KnownBytes.{prepend_known}
 use Rattle.jsh_snippet.specs.declared.acts.Act.{Act}
 use Rattle.jsh_snippet.specs.declared.acts.Act.TheVariants as act
 use Rattle.jsh_snippet.specs.declared.acts.Entry.{Entry}
-use Rattle.jsh_shell.specs.Lines.{commands}
+use Rattle.jsh_cut.specs.Commands.{commands, exits}
 use Rattle.jsh_core.specs.State.{opening}
 use Rattle.jsh_shell.specs.Progress.{Progress, Follows, begins}
 use Rattle.jsh_shell.specs.Progress.Phase.{Between, CutShort}
@@ -51,8 +51,8 @@ pub record IsServed (budget client status : ℕ) (journal : List Entry) (given l
   pub leaves : Leaves client journal
   -- what the statuses say, and when each may come
   pub statuses : (status ≡ 0) ⊎ (status ≡ 3) ⊎ (status ≡ 4) ⊎ (status ≡ 5) ⊎ (status ≡ 6)
-  pub ok : status ≡ 0 → IsDone progress × (ended ≡ true) × (length read < most_input)
-  pub failed_read_part : status ≡ 3 → IsDone progress × (ended ≡ false) × (length read < most_input)
+  pub ok : status ≡ 0 → IsDone progress × (exits read ended ≡ true) × (length read < most_input)
+  pub failed_read_part : status ≡ 3 → IsDone progress × (exits read ended ≡ false) × (length read < most_input)
   pub source_failed : status ≡ 3 → failed_read
   pub sink_failed : status ≡ 4 → failed_write
   pub limited : status ≡ 6 → IsLimited leaves.before progress ⊎ (IsDone progress × (ended ≡ false) × (length read ≡ most_input))

@@ -1,4 +1,4 @@
-pub mod Lines
+pub mod Cutting
 pub mod Progress
 pub mod Transcript
 pub mod Limited

@@ -3,13 +3,14 @@ use Rattle.std.specs.Prelude.{◌≡◌, ℕ, ◌+◌, ◌-◌, ◌<◌, ◌==�
 use Rattle.jsh_snippet.specs.declared.acts.Act.{Act}
 use Rattle.jsh_snippet.specs.declared.acts.Act.TheVariants as act
 use Rattle.jsh_snippet.specs.declared.acts.Entry.{Entry}
+use Rattle.jsh_snippet.specs.declared.acts.Question.TheVariants as question
 use Rattle.jsh_snippet.specs.declared.replies.ReplyBody.{ReplyBody}
 use Rattle.jsh_snippet.specs.declared.replies.ReplyBody.TheVariants as body
 use Rattle.jsh_snippet.specs.declared.replies.Collected.TheVariants as «collected»
 use Rattle.jsh_snippet.specs.declared.replies.Refusal.TheVariants as refusal
 use Rattle.jsh_sched.specs.Pick.{picked}
-use Rattle.jsh_shell.specs.Lines.{Command}
-use Rattle.jsh_shell.specs.Lines.Command.{Eval}
+use Rattle.jsh_cut.specs.declared.command.Command.{Command}
+use Rattle.jsh_cut.specs.declared.command.Command.TheVariants.{Eval, Invalid}
 use Rattle.jsh_core.specs.declared.world.RunView.{RunView}
 use Rattle.jsh_core.specs.State.{State}
 use Rattle.jsh_core.specs.Snippets.{run_of}
@@ -81,10 +82,21 @@ Submits s p (Eval text ∷ commands) source reply q = (source ≡ text) × (q �
   commands = commands;
   limited = is_limit reply;
 })
+Submits s p (Invalid text ∷ commands) source reply q = ⊥
+
+-- the next command is a line that no command is, and it is asked what that is
+abbrev pub Asks : Progress → List Command → List ℕ → ReplyBody → Progress → Type 0
+Asks p [] line reply q = ⊥
+Asks p (Eval text ∷ commands) line reply q = ⊥
+Asks p (Invalid text ∷ commands) line reply q = (line ≡ text) × (q ≡ record p {
+  commands = commands;
+  limited = is_limit reply;
+})
 
 -- each entry of the client itself
 abbrev pub OwnGoes : ℕ → State → Progress → Phase → Act → State → ReplyBody → Progress → Type 0
 OwnGoes budget s p Between (act.Submit source) after reply q = Submits s p p.commands source reply q
+OwnGoes budget s p Between (act.Ask (question.Invalid line)) after reply q = Asks p p.commands line reply q
 OwnGoes budget s p (Evaluating run used) (act.Turn thread steps) after reply q = IsTurn budget run used thread steps s after p q
 OwnGoes budget s p (Evaluating run used) (act.Collect asked) after reply q =
     (asked ≡ run) × (used < budget) × IsLast reply × (q ≡ record p { phase = Between; limited = is_limit reply })

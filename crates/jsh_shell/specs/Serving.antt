@@ -6,8 +6,9 @@ use Rattle.jsh_io.specs.Count.{Rose}
 use Rattle.jsh_snippet.specs.declared.acts.Entry.{Entry}
 use Rattle.jsh_snippet.specs.declared.replies.Reply.{Reply}
 use Rattle.jsh_render.specs.Texts.{shown}
-use Rattle.jsh_shell.specs.Lines.{Command, commands}
-use Rattle.jsh_shell.specs.Lines.Command.{Eval}
+use Rattle.jsh_cut.specs.Commands.{commands, exits}
+use Rattle.jsh_cut.specs.declared.command.Command.{Command}
+use Rattle.jsh_cut.specs.declared.command.Command.TheVariants.{Eval}
 use Rattle.jsh_core.specs.declared.world.Thread.{Thread}
 use Rattle.jsh_core.specs.State.{State, numbered}
 use Rattle.jsh_core.specs.Step.{step}
@@ -160,11 +161,11 @@ status_of halt.NoMemory = 5
 status_of halt.Limit = 6
 status_of halt.SinkFailed = 4
 
--- how the serving of a client ended: its input has ended, a read failed, it has read all that it may, or it was served no further
+-- how the serving of a client ended: its input has ended or it asked for an end, a read failed, it has read all that it may, or it was served no further
 abbrev pub Ends : ℕ → ℕ → List Entry → List Entry → Option (List ℕ) → Option (List ℕ) → List ℕ → Bool → Type 0 → Type 0 → Type 0
 Ends client status before after held_before held_after read ended failed_read failed_write =
-    ((status ≡ 0) × (ended ≡ true) × (length read < most_input) × Serves client before after held_before held_after (commands read ended))
-    ⊎ ((status ≡ 3) × (ended ≡ false) × (length read < most_input) × failed_read × Serves client before after held_before held_after (commands read ended))
+    ((status ≡ 0) × (exits read ended ≡ true) × (length read < most_input) × Serves client before after held_before held_after (commands read ended))
+    ⊎ ((status ≡ 3) × (exits read ended ≡ false) × (length read < most_input) × failed_read × Serves client before after held_before held_after (commands read ended))
     ⊎ ((status ≡ 6) × (ended ≡ false) × (length read ≡ most_input) × Serves client before after held_before held_after (commands read ended))
     ⊎ ((why : Halt) × (status ≡ status_of why) × (why ≡ halt.SinkFailed → failed_write) × ServesPart why client before after held_before held_after (commands read ended))
 

@@ -1,16 +1,16 @@
 ghost use Rattle.std.specs.Prelude.{◌≡◌, ◌≤◌, ◌⊎◌, ◌∷◌, [], ℕ, true, false, length, Err, IfErr, IfOk, IfSome, IsSome, OnOk};
 ghost use Rattle.jsh_snippet.specs.declared.acts.Act.TheVariants as act;
-ghost use Rattle.jsh_shell.specs.Lines.Command.{Eval};
+ghost use Rattle.jsh_cut.specs.declared.command.Command.TheVariants.{Eval};
 ghost use Rattle.jsh_core.specs.declared.world.RunView.{RunView};
 ghost use Rattle.jsh_core.specs.Runs.{run_view};
 ghost use Rattle.jsh_core.specs.History.{state_of, MayDo};
 ghost use Rattle.jsh_core.proofs.Evaluation.{IsFresh};
 ghost use Rattle.jsh_shell.specs.declared.halts.Halt.TheVariants as halt;
-ghost use Rattle.jsh_shell.specs.Limited.{IsTooLong};
 ghost use Rattle.jsh_shell.specs.Serving.{HandsIn, HandsOut, HandsOutPart, HasCause, IsOpen, IsRunFresh, Serves, ServesPart, Turns, TurnsPart};
 
 use crate::acts::{is_limit, perform, run_of};
 use crate::halts::Halt;
+use crate::room::{MAX_HISTORY, has_room_for};
 use jsh_core::Core;
 use jsh_io::Sink;
 use jsh_snippet::{Act, Entry};
@@ -18,15 +18,6 @@ use jsh_steps::Steps;
 use jsh_tree::SrcText;
 use std::alloc::Global;
 use std::sync::ledger::Ledger;
-
-/// The entries of a history, but for leaves and a close.
-const MAX_HISTORY: u64 = 4_194_304;
-
-/// The bytes that a source may have.
-const MAX_SOURCE: usize = 65_536;
-
-/// The bytes that all sources of a history may have.
-const MAX_HISTORY_BYTES: u64 = 67_108_864;
 
 /// The most steps of a turn.
 const MAX_TURN: u32 = 256;
@@ -141,18 +132,6 @@ fn hand_out<O: Sink, L: Ledger>(
     Ok(())
 }
 
-/// Whether a snippet may be handed in.
-fn may_submit(core: &Core, text: &SrcText) -> bool
-    ensures yes { result ≡ true → (client : ℕ) → MayDo core.now client (act.Submit text.now) }
-    ensures no { result ≡ false → (MAX_HISTORY ≤ length core.now) ⊎ IsTooLong core.now (Eval text.now ∷ []) }
-{
-    let len = text.as_str().len();
-    if core.len() >= MAX_HISTORY || len > MAX_SOURCE {
-        return false;
-    }
-    core.source_bytes() <= MAX_HISTORY_BYTES - len as u64
-}
-
 /// Evaluates a snippet for a client, and writes what is said to it.
 #[tactic(none)]
 pub fn evaluate<O: Sink, L: Ledger>(
@@ -170,7 +149,7 @@ pub fn evaluate<O: Sink, L: Ledger>(
     ensures cause { IfErr result (λ why. HasCause why (O.faults sink.old) (O.faults sink.new)) }
     ensures never_falls { O.faults sink.old ≤ O.faults sink.new }
 {
-    if !may_submit(core, &text) {
+    if !has_room_for(core, &text) {
         return Err(Halt::Limit);
     }
     let run = match hand_in(alloc, core, client, sink, text, steps) {

@@ -3,11 +3,15 @@
 #![tactic(auto)]
 
 mod acts;
+mod asking;
 mod client;
+mod dispatch;
 mod evaluation;
 mod halts;
 mod laws;
+mod lines;
 mod reports;
+mod room;
 mod serving;
 mod shell;
 

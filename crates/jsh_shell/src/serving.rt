@@ -1,15 +1,17 @@
-ghost use Rattle.std.specs.Prelude.{◌≡◌, ◌<◌, ◌≤◌, ◌++◌, ◌∷◌, [], length, take, Ok, IfErr, IfOk, IfSome, OnErr, OnOk};
+ghost use Rattle.std.specs.Prelude.{◌≡◌, ◌+◌, ◌*◌, ◌^◌, ◌<◌, ◌≤◌, ◌++◌, false, [], length, take, Ok, IfErr, IfOk, IfSome, OnErr};
 ghost use Rattle.std.specs.Io.KnownBytes.{prepend_known};
 ghost use Rattle.jsh_lines.specs.Lines.{cut};
-ghost use Rattle.jsh_shell.specs.Lines.{evals};
+ghost use Rattle.jsh_cut.specs.Commands.{held_text};
 ghost use Rattle.jsh_io.specs.Count.{Rose};
-ghost use Rattle.jsh_shell.specs.Serving.{HasCause, IsOpen, IsServedBy, Serves, ServesPart};
+ghost use Rattle.jsh_shell.specs.Cutting.{ServesCut, piece_gives};
+ghost use Rattle.jsh_shell.specs.Serving.{HasCause, IsOpen, IsServedBy, ServesPart};
 
-use crate::evaluation::evaluate;
 use crate::halts::Halt;
+use crate::lines::{Behind, serve_begun, serve_end};
 use jsh_core::Core;
+use jsh_cut::Held;
 use jsh_io::{Failed, Sink, Source};
-use jsh_lines::{is_blank, line_end, text_of};
+use jsh_lines::line_end;
 use jsh_steps::Steps;
 use std::alloc::Global;
 use std::sync::ledger::Ledger;
@@ -20,100 +22,49 @@ const MOST_INPUT: usize = 1_073_741_824;
 /// The bytes that are read at a time.
 pub const PIECE: usize = 8_192;
 
-/// Serves a client's line.
-#[tactic(none)]
-fn serve_line<O: Sink, L: Ledger>(
-    alloc: Global,
-    core: &mut Core,
-    client: u32,
-    sink: &mut O,
-    line: &[u8],
-    steps: &mut Steps<L>,
-) -> Result<(), Halt>
-    requires { IsOpen client core.old }
-    ensures ok { OnOk result (Serves client core.old core.new (O.held sink.old) (O.held sink.new) (evals (line.now ∷ []))) }
-    ensures err { IfErr result (λ why. ServesPart why client core.old core.new (O.held sink.old) (O.held sink.new) (evals (line.now ∷ []))) }
-    ensures open { IsOpen client core.new }
-    ensures cause { IfErr result (λ why. HasCause why (O.faults sink.old) (O.faults sink.new)) }
-    ensures never_falls { O.faults sink.old ≤ O.faults sink.new }
-{
-    if is_blank(line) {
-        return Ok(());
-    }
-    let text = match text_of(alloc, line) {
-        Ok(text) => text,
-        Err(_refused) => return Err(Halt::NoMemory),
-    };
-    match evaluate(alloc, core, client, sink, text, steps) {
-        Ok(()) => (),
-        Err(why) => return Err(why),
-    }
-    Ok(())
-}
-
-/// Serves the line that was held and ends with these bytes.
-#[tactic(none)]
-fn serve_held<O: Sink, L: Ledger>(
-    alloc: Global,
-    core: &mut Core,
-    client: u32,
-    sink: &mut O,
-    held: &mut Vec<u8>,
-    end: &[u8],
-    steps: &mut Steps<L>,
-) -> Result<(), Halt>
-    requires { IsOpen client core.old }
-    ensures ok { OnOk result (Serves client core.old core.new (O.held sink.old) (O.held sink.new) (evals ((held.old.items ++ end.now) ∷ []))) }
-    ensures held { OnOk result (held.new.items ≡ []) }
-    ensures err { IfErr result (λ why. ServesPart why client core.old core.new (O.held sink.old) (O.held sink.new) (evals ((held.old.items ++ end.now) ∷ []))) }
-    ensures open { IsOpen client core.new }
-    ensures cause { IfErr result (λ why. HasCause why (O.faults sink.old) (O.faults sink.new)) }
-    ensures never_falls { O.faults sink.old ≤ O.faults sink.new }
-{
-    match held.extend_from_slice(end) {
-        Ok(()) => (),
-        Err(_refused) => return Err(Halt::NoMemory),
-    }
-    match serve_line(alloc, core, client, sink, held.as_slice(), steps) {
-        Ok(()) => (),
-        Err(why) => return Err(why),
-    }
-    held.clear();
-    Ok(())
-}
-
-/// Serves the lines that end in a piece of input. What stands behind the last of them is held.
+/// Serves the lines that end in a piece of input. What stands behind the last of them begins the next line.
 #[tactic(none)]
 fn serve_piece<O: Sink, L: Ledger>(
     alloc: Global,
     core: &mut Core,
     client: u32,
     sink: &mut O,
-    held: &mut Vec<u8>,
+    held: Held,
+    begun: &mut Vec<u8>,
     piece: &[u8],
     steps: &mut Steps<L>,
-) -> Result<(), Halt>
+) -> Result<Behind, Halt>
     requires open { IsOpen client core.old }
-    requires uncut { (cut held.old.items).rest ≡ held.old.items }
-    ensures ok { OnOk result (Serves client core.old core.new (O.held sink.old) (O.held sink.new) (evals (cut (held.old.items ++ piece.now)).whole)) }
-    ensures held { OnOk result (held.new.items ≡ (cut (held.old.items ++ piece.now)).rest) }
-    ensures err { IfErr result (λ why. ServesPart why client core.old core.new (O.held sink.old) (O.held sink.new) (evals (cut (held.old.items ++ piece.now)).whole)) }
+    requires uncut { (cut begun.old.items).rest ≡ begun.old.items }
+    requires few { length (held_text held) + 3 * (length begun.old.items + length piece.now) < 2 ^ 32 }
+    ensures ok { IfOk result (λ behind. ServesCut client core.old core.new (O.held sink.old) (O.held sink.new) (piece_gives held (begun.old.items ++ piece.now)) behind) }
+    ensures begun { IfOk result (λ behind. behind.exits ≡ false → begun.new.items ≡ (cut (begun.old.items ++ piece.now)).rest) }
+    ensures few { IfOk result (λ behind. behind.exits ≡ false → length (held_text behind.held) + 3 * length begun.new.items ≤ length (held_text held) + 3 * (length begun.old.items + length piece.now)) }
+    ensures err { IfErr result (λ why. ServesPart why client core.old core.new (O.held sink.old) (O.held sink.new) (piece_gives held (begun.old.items ++ piece.now)).commands) }
     ensures open { IsOpen client core.new }
     ensures cause { IfErr result (λ why. HasCause why (O.faults sink.old) (O.faults sink.new)) }
     ensures never_falls { O.faults sink.old ≤ O.faults sink.new }
 {
+    let mut waiting = held;
     let mut rest = piece;
     'lines: while let Some(at) = line_end(rest) {
-        let (line, behind) = rest.split_at(at);
-        match serve_held(alloc, core, client, sink, held, line, steps) {
-            Ok(()) => (),
+        let (line, next) = rest.split_at(at);
+        let behind = match serve_begun(alloc, core, client, sink, waiting, begun, line, steps) {
+            Ok(behind) => behind,
             Err(why) => return Err(why),
+        };
+        if behind.exits {
+            return Ok(behind);
         }
-        let (_feed, next) = behind.split_at(1);
-        rest = next;
+        waiting = behind.held;
+        let (_feed, later) = next.split_at(1);
+        rest = later;
     }
-    match held.extend_from_slice(rest) {
-        Ok(()) => Ok(()),
+    match begun.extend_from_slice(rest) {
+        Ok(()) => Ok(Behind {
+            held: waiting,
+            exits: false,
+        }),
         Err(_refused) => Err(Halt::NoMemory),
     }
 }
@@ -132,8 +83,8 @@ fn read_some<I: Source>(source: &mut I, buffer: &mut [u8], room: usize) -> Resul
     source.read(&mut buffer[..room])
 }
 
-/// Serves a client until its input ends, a read or a write fails, or a limit or want of memory comes.
-/// The answer is its status.
+/// Serves a client until its input ends or it asks for an end, a read or a write fails, or a limit or want of
+/// memory comes. The answer is its status.
 #[tactic(none)]
 pub fn serve_pieces<I: Source, O: Sink, L: Ledger>(
     alloc: Global,
@@ -150,7 +101,8 @@ pub fn serve_pieces<I: Source, O: Sink, L: Ledger>(
         (Rose (I.faults source.old) (I.faults source.new)) (Rose (O.faults sink.old) (O.faults sink.new)) }
     ensures open { IsOpen client core.new }
 {
-    let mut held = Vec::new(alloc);
+    let mut held = Held::Nothing;
+    let mut begun = Vec::new(alloc);
     let mut total: usize = 0;
     'pieces: while total < MOST_INPUT {
         let room = PIECE.min(MOST_INPUT - total);
@@ -159,24 +111,32 @@ pub fn serve_pieces<I: Source, O: Sink, L: Ledger>(
             Err(_failed) => return 3,
         };
         if count == 0 {
-            match serve_line(alloc, core, client, sink, held.as_slice(), steps) {
+            match serve_end(alloc, core, client, sink, held, begun.as_slice(), steps) {
                 Ok(()) => return 0,
                 Err(why) => return why.status(),
             }
         }
-        match serve_piece(
+        let behind = match serve_piece(
             alloc,
             core,
             client,
             sink,
-            &mut held,
+            held,
+            &mut begun,
             &buffer[..count],
             steps,
         ) {
-            Ok(()) => (),
+            Ok(behind) => behind,
             Err(why) => return why.status(),
-        }
+        };
         total += count;
+        if behind.exits {
+            if total < MOST_INPUT {
+                return 0;
+            }
+            return 6;
+        }
+        held = behind.held;
     }
     6
 }

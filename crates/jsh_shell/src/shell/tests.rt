@@ -61,7 +61,7 @@ const WRAPPED: [(u32, Did); 7] = [
 
 const BETWEEN_BLANKS: [(u32, Did); 6] = [
     (0, Did::Enter),
-    (1, Did::Submit("\t1-2 ")),
+    (1, Did::Submit("1-2")),
     (1, Did::Turn(1, 2)),
     (1, Did::Collect(1)),
     (1, Did::Leave),
@@ -80,7 +80,7 @@ const TWO: [(u32, Did); 9] = [
     (0, Did::Close),
 ];
 
-const FAULTY: [(u32, Did); 14] = [
+const FAULTY: [(u32, Did); 18] = [
     (0, Did::Enter),
     (1, Did::Submit("-2147483648")),
     (1, Did::Turn(1, 2)),
@@ -88,16 +88,20 @@ const FAULTY: [(u32, Did); 14] = [
     (1, Did::Submit("2147483648")),
     (1, Did::Submit("1 + 0x;")),
     (1, Did::Submit("1 + )")),
-    (1, Did::Submit("// c")),
-    (1, Did::Submit("1; 2")),
-    (1, Did::Submit("0xA - 07;")),
+    (1, Did::Submit("1;")),
     (1, Did::Turn(2, 2)),
     (1, Did::Collect(2)),
+    (1, Did::Submit("2")),
+    (1, Did::Turn(3, 2)),
+    (1, Did::Collect(3)),
+    (1, Did::Submit("0xA - 07;")),
+    (1, Did::Turn(4, 2)),
+    (1, Did::Collect(4)),
     (1, Did::Leave),
     (0, Did::Close),
 ];
 
-const ROWS: [Row; 7] = [
+const ROWS: [Row; 8] = [
     Row {
         input: "1 + 2\n",
         written: "$1 ==> 3\n",
@@ -114,13 +118,18 @@ const ROWS: [Row; 7] = [
         journal: &NOTHING,
     },
     Row {
+        input: "// only a comment",
+        written: "",
+        journal: &NOTHING,
+    },
+    Row {
         input: "2147483647 + 1\nx\n",
         written: "$1 ==> -2147483648\n|  Error at 1:1: not built yet\n",
         journal: &WRAPPED,
     },
     Row {
         input: "-2147483648\n2147483648\n1 + 0x;\n1 + )\n// c\n1; 2\n0xA - 07;\n",
-        written: "$1 ==> -2147483648\n|  Error at 1:1: number too big\n|  Error at 1:5: bad token\n|  Error at 1:5: unexpected text\n|  Error at 1:1: one snippet is needed\n|  Error at 1:4: unexpected text\n$7 ==> 3\n",
+        written: "$1 ==> -2147483648\n|  Error at 1:1: number too big\n|  Error at 1:5: bad token\n|  Error at 1:5: unexpected text\n$5 ==> 1\n$6 ==> 2\n$7 ==> 3\n",
         journal: &FAULTY,
     },
     Row {

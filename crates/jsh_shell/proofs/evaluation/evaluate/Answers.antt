@@ -1,17 +1,18 @@
 -- A snippet is handed in, its run does its turn, and the run is handed out.
 use Rattle.std.proofs.Common.{arith, refl, ap, Err}
+use Rattle.jsh_cut.specs.declared.command.Command.TheVariants.{Eval}
 use Rattle.jsh_shell.proofs.ActLemmas.{serves-text, serves-run}
 use Rattle.jsh_shell.proofs.ServeLemmas.{part-in-turn, part-in-collect, part-at-limit, cause-elsewhere, cause-earlier}
 use Rattle.jsh_shell.proofs.evaluation.evaluate.Goals as goal
 
-pub returns-then-not-may_submit-clause-err : goal.returns-then-not-may_submit-clause-err
-returns-then-not-may_submit-clause-err g c = part-at-limit _ _ _ _ (c.may_submit.ensures.no c.if-not-may_submit.true)
+pub returns-then-not-has_room_for-clause-err : goal.returns-then-not-has_room_for-clause-err
+returns-then-not-has_room_for-clause-err g c = part-at-limit _ _ _ (Eval c.args.text) (c.has_room_for.ensures.no c.if-not-has_room_for.true)
 
-pub returns-then-not-may_submit-clause-open : goal.returns-then-not-may_submit-clause-open
-returns-then-not-may_submit-clause-open g c = c.requires
+pub returns-then-not-has_room_for-clause-open : goal.returns-then-not-has_room_for-clause-open
+returns-then-not-has_room_for-clause-open g c = c.requires
 
-pub returns-then-not-may_submit-clause-never_falls : goal.returns-then-not-may_submit-clause-never_falls
-returns-then-not-may_submit-clause-never_falls g c = omega arith
+pub returns-then-not-has_room_for-clause-never_falls : goal.returns-then-not-has_room_for-clause-never_falls
+returns-then-not-has_room_for-clause-never_falls g c = omega arith
 
 pub same-text : goal.same-text
 same-text g c = refl
@@ -20,7 +21,7 @@ pub hand_in-requires-clause-open : goal.hand_in-requires-clause-open
 hand_in-requires-clause-open g c = c.requires
 
 pub hand_in-requires-clause-may : goal.hand_in-requires-clause-may
-hand_in-requires-clause-may g c = c.may_submit.ensures.yes c.if-not-may_submit.false c.args.client
+hand_in-requires-clause-may g c = c.has_room_for.ensures.yes c.if-not-has_room_for.false
 
 pub returns-in-Err-clause-err : goal.returns-in-Err-clause-err
 returns-in-Err-clause-err g c = c.in-Err.ensures.err

@@ -1,24 +1,31 @@
--- Line by line, and then the rest is held.
-use Rattle.std.proofs.Common.{rules, ◌≡◌, ◌<◌, ◌+◌, ◌++◌, ◌∷◌, [], false, arith, sym, ◌∙◌, ap, subst, List, ℕ, length, drop}
-use Rattle.jsh_lines.specs.Lines.{has_line_feed, cut}
-use Rattle.jsh_shell.specs.Lines.{evals}
-use Rattle.jsh_shell.specs.Serving.{Serves, ServesPart}
+-- Line by line, and then the rest begins the next one.
+use Rattle.std.proofs.Common.{rules, ◌≡◌, ◌≤◌, ◌<◌, ◌+◌, ◌*◌, ◌++◌, ◌∷◌, [], true, false, arith, sym, ◌∙◌, ap, subst, List, ℕ, length, drop, take, length-append, length-take, length-drop}
+use Rattle.jsh_lines.specs.Lines.{as_text, has_line_feed, cut}
+use Rattle.jsh_cut.specs.Commands.{cut_line, held_text}
+use Rattle.jsh_shell.specs.Cutting.{ServesCut}
+use Rattle.jsh_shell.specs.Serving.{ServesPart}
 use Rattle.jsh_shell.proofs.ServeLemmas.{cause-earlier}
-use Rattle.jsh_shell.proofs.PieceLemmas.{IsAlong, along-start, along-line, along-part, along-memory, along-end, along-rest, behind-feed}
+use Rattle.jsh_shell.proofs.PieceLemmas.{IsAlong, along-start, along-line, along-exit, along-part, along-memory, along-end, along-rest, behind-feed}
 use Rattle.jsh_shell.proofs.serving.serve_piece.Goals as goal
 
 pub lines-init : goal.lines-init
-lines-init g c = record { «open» = c.requires.open; uncut = c.requires.uncut; along = along-start _ _ _ _; falls = omega arith }
+lines-init g c = record { «open» = c.requires.open; uncut = c.requires.uncut; few = omega arith; along = along-start _ _ _ _ _; falls = omega arith }
 
 pub split_at-requires : goal.split_at-requires
 split_at-requires g c = let h : c.in-Some.at < length c.lines.rest.now = c.in-Some.ensures.0 in omega (arith, h)
 
-pub serve_held-requires : goal.serve_held-requires
-serve_held-requires g c = c.lines.invariant.open
+pub serve_begun-requires-clause-open : goal.serve_begun-requires-clause-open
+serve_begun-requires-clause-open g c = c.lines.invariant.open
+
+pub serve_begun-requires-clause-few : goal.serve_begun-requires-clause-few
+serve_begun-requires-clause-few g c =
+    let h : c.in-Some.at < length c.lines.rest.now = c.in-Some.ensures.0 in
+    let long : length c.split_at.result.0.now ≡ c.in-Some.at = ap length c.split_at.ensures.front ∙ length-take c.in-Some.at c.lines.rest.now ∙ omega arith in
+    omega (arith, h, long, c.lines.invariant.few, c.requires.few)
 
 pub returns-in-Err-clause-err : goal.returns-in-Err-clause-err
-returns-in-Err-clause-err g c = along-part c.in-Err.why _ _ _ _ _ _ _ _ c.lines.held.items c.lines.rest.now c.in-Some.at c.lines.invariant.along c.lines.invariant.uncut c.in-Some.ensures
-    (subst (λ (line : List ℕ). ServesPart c.in-Err.why c.args.client c.lines.core c.serve_held.new.core (g.O.Sink.held c.lines.sink) (g.O.Sink.held c.serve_held.new.sink) (evals ((c.lines.held.items ++ line) ∷ []))) c.split_at.ensures.front c.in-Err.ensures.err)
+returns-in-Err-clause-err g c = along-part c.in-Err.why _ _ _ _ _ _ _ _ c.lines.waiting _ c.lines.begun.items c.lines.rest.now c.in-Some.at c.lines.invariant.along c.lines.invariant.uncut c.in-Some.ensures
+    (subst (λ (line : List ℕ). ServesPart c.in-Err.why c.args.client c.lines.core c.serve_begun.new.core (g.O.Sink.held c.lines.sink) (g.O.Sink.held c.serve_begun.new.sink) (cut_line c.lines.waiting (as_text (c.lines.begun.items ++ line))).commands) c.split_at.ensures.front c.in-Err.ensures.err)
 
 pub returns-in-Err-clause-open : goal.returns-in-Err-clause-open
 returns-in-Err-clause-open g c = c.in-Err.ensures.open
@@ -28,6 +35,24 @@ returns-in-Err-clause-cause g c = cause-earlier c.in-Err.why _ _ _ c.lines.invar
 
 pub returns-in-Err-clause-never_falls : goal.returns-in-Err-clause-never_falls
 returns-in-Err-clause-never_falls g c = omega (arith, c.lines.invariant.falls, c.in-Err.ensures.never_falls)
+
+pub returns-then-behind-clause-ok : goal.returns-then-behind-clause-ok
+returns-then-behind-clause-ok g c =
+    along-exit _ _ _ _ _ _ _ _ c.lines.waiting c.in-Ok.behind _ c.lines.begun.items c.lines.rest.now c.in-Some.at c.lines.invariant.along c.lines.invariant.uncut c.in-Some.ensures
+    (subst (λ (line : List ℕ). ServesCut c.args.client c.lines.core c.serve_begun.new.core (g.O.Sink.held c.lines.sink) (g.O.Sink.held c.serve_begun.new.sink) (cut_line c.lines.waiting (as_text (c.lines.begun.items ++ line))) c.in-Ok.behind) c.split_at.ensures.front c.in-Ok.ensures.ok)
+    c.if-behind.true
+
+pub returns-then-behind-clause-begun : goal.returns-then-behind-clause-begun
+returns-then-behind-clause-begun g c = λ on. let no : true ≡ false = sym c.if-behind.true ∙ on in cc
+
+pub returns-then-behind-clause-few : goal.returns-then-behind-clause-few
+returns-then-behind-clause-few g c = λ on. let no : true ≡ false = sym c.if-behind.true ∙ on in cc
+
+pub returns-then-behind-clause-open : goal.returns-then-behind-clause-open
+returns-then-behind-clause-open g c = c.in-Ok.ensures.open
+
+pub returns-then-behind-clause-never_falls : goal.returns-then-behind-clause-never_falls
+returns-then-behind-clause-never_falls g c = omega (arith, c.lines.invariant.falls, c.in-Ok.ensures.never_falls)
 
 pub split_at-requires-in-Some : goal.split_at-requires-in-Some
 split_at-requires-in-Some g c =
@@ -41,26 +66,34 @@ lines-smaller g c =
 
 pub lines-preserved : goal.lines-preserved
 lines-preserved g c =
+    let h : c.in-Some.at < length c.lines.rest.now = c.in-Some.ensures.0 in
+    let long : length c.split_at.result.0.now ≡ c.in-Some.at = ap length c.split_at.ensures.front ∙ length-take c.in-Some.at c.lines.rest.now ∙ omega arith in
     let next : c.split_at-in-Some.result.1.now ≡ drop (c.in-Some.at + 1) c.lines.rest.now = c.split_at-in-Some.ensures.back ∙ ap (drop 1) c.split_at.ensures.back ∙ behind-feed c.in-Some.at c.lines.rest.now in
     record {
       «open» = c.in-Ok.ensures.open;
-      uncut = ap (λ (h : List ℕ). (cut h).rest) c.in-Ok.ensures.held ∙ sym c.in-Ok.ensures.held;
-      along = subst (λ (left : List ℕ). IsAlong c.args.client c.args.core.now c.serve_held.new.core (g.O.Sink.held c.args.sink.now) (g.O.Sink.held c.serve_held.new.sink) (c.args.held.now.items ++ c.args.piece.now) left)
-          (sym (ap (λ (h : List ℕ). h ++ c.split_at-in-Some.result.1.now) c.in-Ok.ensures.held ∙ next))
-          (along-line _ _ _ _ _ _ _ _ c.lines.held.items c.lines.rest.now c.in-Some.at c.lines.invariant.along c.lines.invariant.uncut c.in-Some.ensures
-          (subst (λ (line : List ℕ). Serves c.args.client c.lines.core c.serve_held.new.core (g.O.Sink.held c.lines.sink) (g.O.Sink.held c.serve_held.new.sink) (evals ((c.lines.held.items ++ line) ∷ []))) c.split_at.ensures.front c.in-Ok.ensures.ok));
+      uncut = ap (λ (h : List ℕ). (cut h).rest) c.in-Ok.ensures.begun ∙ sym c.in-Ok.ensures.begun;
+      few = omega (arith, h, long, c.lines.invariant.few, c.in-Ok.ensures.few, ap length c.in-Ok.ensures.begun, c.split_at.ensures.back_len, c.split_at-in-Some.ensures.back_len);
+      along = subst (λ (left : List ℕ). IsAlong c.args.client c.args.core.now c.serve_begun.new.core (g.O.Sink.held c.args.sink.now) (g.O.Sink.held c.serve_begun.new.sink) c.args.held c.in-Ok.behind.held (c.args.begun.now.items ++ c.args.piece.now) left)
+          (sym (ap (λ (h : List ℕ). h ++ c.split_at-in-Some.result.1.now) c.in-Ok.ensures.begun ∙ next))
+          (along-line _ _ _ _ _ _ _ _ c.lines.waiting c.in-Ok.behind _ c.lines.begun.items c.lines.rest.now c.in-Some.at c.lines.invariant.along c.lines.invariant.uncut c.in-Some.ensures
+          (subst (λ (line : List ℕ). ServesCut c.args.client c.lines.core c.serve_begun.new.core (g.O.Sink.held c.lines.sink) (g.O.Sink.held c.serve_begun.new.sink) (cut_line c.lines.waiting (as_text (c.lines.begun.items ++ line))) c.in-Ok.behind) c.split_at.ensures.front c.in-Ok.ensures.ok)
+          c.if-behind.false);
       falls = omega (arith, c.lines.invariant.falls, c.in-Ok.ensures.never_falls);
     }
 
 pub returns-in-Ok-extend_from_slice-clause-ok : goal.returns-in-Ok-extend_from_slice-clause-ok
 returns-in-Ok-extend_from_slice-clause-ok g c =
     let none : has_line_feed c.lines.rest.now ≡ false = search rules in
-    along-end _ _ _ _ _ _ c.lines.held.items c.lines.rest.now c.lines.invariant.along c.lines.invariant.uncut none
+    along-end _ _ _ _ _ _ c.lines.waiting _ c.lines.begun.items c.lines.rest.now c.lines.invariant.along c.lines.invariant.uncut none
 
-pub returns-in-Ok-extend_from_slice-clause-held : goal.returns-in-Ok-extend_from_slice-clause-held
-returns-in-Ok-extend_from_slice-clause-held g c =
+pub returns-in-Ok-extend_from_slice-clause-begun : goal.returns-in-Ok-extend_from_slice-clause-begun
+returns-in-Ok-extend_from_slice-clause-begun g c = λ on.
     let none : has_line_feed c.lines.rest.now ≡ false = search rules in
-    c.in-Ok-extend_from_slice.ensures.items ∙ sym (along-rest _ _ _ _ _ _ c.lines.held.items c.lines.rest.now c.lines.invariant.along c.lines.invariant.uncut none)
+    c.in-Ok-extend_from_slice.ensures.items ∙ sym (along-rest _ _ _ _ _ _ c.lines.waiting _ c.lines.begun.items c.lines.rest.now c.lines.invariant.along c.lines.invariant.uncut none)
+
+pub returns-in-Ok-extend_from_slice-clause-few : goal.returns-in-Ok-extend_from_slice-clause-few
+returns-in-Ok-extend_from_slice-clause-few g c = λ on.
+    omega (arith, c.lines.invariant.few, ap length c.in-Ok-extend_from_slice.ensures.items, length-append c.lines.begun.items c.lines.rest.now)
 
 pub returns-in-Ok-extend_from_slice-clause-open : goal.returns-in-Ok-extend_from_slice-clause-open
 returns-in-Ok-extend_from_slice-clause-open g c = c.lines.invariant.open
@@ -69,7 +102,7 @@ pub returns-in-Ok-extend_from_slice-clause-never_falls : goal.returns-in-Ok-exte
 returns-in-Ok-extend_from_slice-clause-never_falls g c = c.lines.invariant.falls
 
 pub returns-in-Err-extend_from_slice-clause-err : goal.returns-in-Err-extend_from_slice-clause-err
-returns-in-Err-extend_from_slice-clause-err g c = along-memory _ _ _ _ _ _ (c.lines.held.items ++ c.lines.rest.now) c.lines.invariant.along
+returns-in-Err-extend_from_slice-clause-err g c = along-memory _ _ _ _ _ _ c.lines.waiting _ (c.lines.begun.items ++ c.lines.rest.now) c.lines.invariant.along
 
 pub returns-in-Err-extend_from_slice-clause-open : goal.returns-in-Err-extend_from_slice-clause-open
 returns-in-Err-extend_from_slice-clause-open g c = c.lines.invariant.open

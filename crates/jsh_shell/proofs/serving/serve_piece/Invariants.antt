@@ -1,6 +1,7 @@
--- Of what was held and the piece, some lines were served, and the rest is left.
-use Rattle.std.proofs.Common.{◌≡◌, ◌≤◌, ◌++◌, length}
+-- Of what was begun and the piece, some lines were served, and the rest is left.
+use Rattle.std.proofs.Common.{◌≡◌, ◌≤◌, ◌+◌, ◌*◌, ◌++◌, length}
 use Rattle.jsh_lines.specs.Lines.{cut}
+use Rattle.jsh_cut.specs.Commands.{held_text}
 use Rattle.jsh_shell.specs.Serving.{IsOpen}
 use Rattle.jsh_shell.proofs.PieceLemmas.{IsAlong}
 use Rattle.jsh_shell.proofs.serving.serve_piece.Given as goal
@@ -8,8 +9,9 @@ use Rattle.jsh_shell.proofs.serving.serve_piece.Given as goal
 abbrev pub invariant-lines : goal.invariant-lines
 invariant-lines g l = record {
   «open» : IsOpen l.client l.core;
-  uncut : (cut l.held.items).rest ≡ l.held.items;
-  along : IsAlong l.client l.initial.core l.core (g.O.Sink.held l.initial.sink) (g.O.Sink.held l.sink) (l.initial.held.items ++ l.piece) (l.held.items ++ l.rest);
+  uncut : (cut l.begun.items).rest ≡ l.begun.items;
+  few : length (held_text l.waiting) + 3 * (length l.begun.items + length l.rest) ≤ length (held_text l.initial.waiting) + 3 * (length l.initial.begun.items + length l.piece);
+  along : IsAlong l.client l.initial.core l.core (g.O.Sink.held l.initial.sink) (g.O.Sink.held l.sink) l.initial.waiting l.waiting (l.initial.begun.items ++ l.piece) (l.begun.items ++ l.rest);
   falls : g.O.Sink.faults l.initial.sink ≤ g.O.Sink.faults l.sink;
 }
 

@@ -1,19 +1,22 @@
 -- Piece by piece, until there is no more.
-use Rattle.std.proofs.Common.{◌≡◌, ◌≤◌, ◌<◌, ◌+◌, ◌-◌, ◌∷◌, [], arith, sym, ◌∙◌, ap, subst, List, ℕ, length, take, Ok, length-take}
+use Rattle.std.proofs.Common.{◌≡◌, ◌≤◌, ◌<◌, ◌+◌, ◌-◌, ◌*◌, ◌∷◌, [], arith, sym, ◌∙◌, ap, subst, List, ℕ, length, take, Ok, length-take}
 use Rattle.std.specs.Io.KnownBytes.{prepend_known}
-use Rattle.jsh_shell.specs.Lines.{evals}
+use Rattle.jsh_cut.specs.Commands.{held_text}
+use Rattle.jsh_cut.specs.declared.held.Held.TheVariants as held
 use Rattle.jsh_shell.specs.Budget.{most_input}
+use Rattle.jsh_shell.specs.Cutting.{ending}
 use Rattle.jsh_shell.specs.Serving.{Serves, ServesPart}
 use Rattle.jsh_shell.proofs.ServeLemmas.{rose-earlier, sink-rose}
-use Rattle.jsh_shell.proofs.ReadLemmas.{IsReading, reading-start, reading-more, served-failed, served-most, served-whole, served-part-end, served-part-piece, uncut-held}
+use Rattle.jsh_shell.proofs.ReadLemmas.{IsReading, reading-start, reading-more, served-failed, served-most, served-exit, served-exit-most, served-whole, served-part-end, served-part-piece, uncut-begun}
 use Rattle.jsh_shell.proofs.serving.serve_pieces.Goals as goal
 
 pub pieces-init : goal.pieces-init
 pieces-init g c = record {
   «open» = c.requires.open;
   few = omega arith;
-  reading = subst (λ (h : List ℕ). IsReading c.args.client c.args.core.now c.args.core.now (g.I.Source.left c.args.source.now) (g.I.Source.left c.args.source.now) (g.O.Sink.held c.args.sink.now) (g.O.Sink.held c.args.sink.now) h 0)
-      (sym c.new-held.ensures.items) (reading-start _ _ _ _);
+  short = omega (arith, ap length c.new-begun.ensures.items);
+  reading = subst (λ (h : List ℕ). IsReading c.args.client c.args.core.now c.args.core.now (g.I.Source.left c.args.source.now) (g.I.Source.left c.args.source.now) (g.O.Sink.held c.args.sink.now) (g.O.Sink.held c.args.sink.now) held.Nothing h 0)
+      (sym c.new-begun.ensures.items) (reading-start _ _ _ _);
   source_counts = omega arith;
   sink_counts = omega arith;
 }
@@ -28,37 +31,40 @@ pub read_some-requires-clause-fits : goal.read_some-requires-clause-fits
 read_some-requires-clause-fits g c = omega (arith, c.min-room.ensures, c.pieces.auto.buffer, c.requires.piece)
 
 pub returns-in-Err-clause-served : goal.returns-in-Err-clause-served
-returns-in-Err-clause-served g c = served-failed _ _ _ _ _ _ _ _ _ _ c.pieces.held.items c.pieces.total c.pieces.invariant.reading c.in-Err.ensures.none_lost c.pieces-test.true
+returns-in-Err-clause-served g c = served-failed _ _ _ _ _ _ _ _ _ _ c.pieces.held c.pieces.begun.items c.pieces.total c.pieces.invariant.reading c.in-Err.ensures.none_lost c.pieces-test.true
     (rose-earlier _ _ _ c.pieces.invariant.source_counts c.in-Err.ensures.never_falls c.in-Err.ensures.failed)
 
 pub returns-in-Err-clause-open : goal.returns-in-Err-clause-open
 returns-in-Err-clause-open g c = c.pieces.invariant.open
 
-pub serve_line-requires : goal.serve_line-requires
-serve_line-requires g c = c.pieces.invariant.open
+pub serve_end-requires-clause-open : goal.serve_end-requires-clause-open
+serve_end-requires-clause-open g c = c.pieces.invariant.open
 
-pub returns-in-Ok-serve_line-clause-served : goal.returns-in-Ok-serve_line-clause-served
-returns-in-Ok-serve_line-clause-served g c =
+pub serve_end-requires-clause-few : goal.serve_end-requires-clause-few
+serve_end-requires-clause-few g c = omega (arith, c.pieces.invariant.short, c.pieces.invariant.few, ap length c.as_slice.ensures.value)
+
+pub returns-in-Ok-serve_end-clause-served : goal.returns-in-Ok-serve_end-clause-served
+returns-in-Ok-serve_end-clause-served g c =
     let none : c.in-Ok.count ≡ 0 = c.if-count-eq0.true in
-    served-whole _ _ _ _ _ _ _ _ _ _ _ _ c.pieces.held.items c.pieces.total c.pieces.invariant.reading
+    served-whole _ _ _ _ _ _ _ _ _ _ _ _ c.pieces.held c.pieces.begun.items c.pieces.total c.pieces.invariant.reading
     (c.in-Ok.ensures.bytes ∙ ap (λ n. prepend_known (take n c.read_some.new.buffer) (g.I.Source.left c.read_some.new.source)) none)
     (c.in-Ok.ensures.end (ap Ok none)) c.pieces-test.true
-    (subst (λ (line : List ℕ). Serves c.args.client c.pieces.core c.serve_line.new.core (g.O.Sink.held c.pieces.sink) (g.O.Sink.held c.serve_line.new.sink) (evals (line ∷ []))) c.as_slice.ensures.value c.in-Ok-serve_line.ensures.ok)
+    (subst (λ (line : List ℕ). Serves c.args.client c.pieces.core c.serve_end.new.core (g.O.Sink.held c.pieces.sink) (g.O.Sink.held c.serve_end.new.sink) (ending c.pieces.held line)) c.as_slice.ensures.value c.in-Ok-serve_end.ensures.ok)
 
-pub returns-in-Ok-serve_line-clause-open : goal.returns-in-Ok-serve_line-clause-open
-returns-in-Ok-serve_line-clause-open g c = c.in-Ok-serve_line.ensures.open
+pub returns-in-Ok-serve_end-clause-open : goal.returns-in-Ok-serve_end-clause-open
+returns-in-Ok-serve_end-clause-open g c = c.in-Ok-serve_end.ensures.open
 
-pub returns-in-Err-serve_line-clause-served : goal.returns-in-Err-serve_line-clause-served
-returns-in-Err-serve_line-clause-served g c =
+pub returns-in-Err-serve_end-clause-served : goal.returns-in-Err-serve_end-clause-served
+returns-in-Err-serve_end-clause-served g c =
     let none : c.in-Ok.count ≡ 0 = c.if-count-eq0.true in
-    served-part-end _ _ c.in-Err-serve_line.why _ c.status.result _ _ _ _ _ _ _ _ _ c.pieces.held.items c.pieces.total c.pieces.invariant.reading
+    served-part-end _ _ c.in-Err-serve_end.why _ c.status.result _ _ _ _ _ _ _ _ _ c.pieces.held c.pieces.begun.items c.pieces.total c.pieces.invariant.reading
     (c.in-Ok.ensures.bytes ∙ ap (λ n. prepend_known (take n c.read_some.new.buffer) (g.I.Source.left c.read_some.new.source)) none)
     (c.in-Ok.ensures.end (ap Ok none)) c.pieces.invariant.few c.status.ensures
-    (λ e. rose-earlier _ _ _ c.pieces.invariant.sink_counts c.in-Err-serve_line.ensures.never_falls (sink-rose c.in-Err-serve_line.why _ _ c.in-Err-serve_line.ensures.cause e))
-    (subst (λ (line : List ℕ). ServesPart c.in-Err-serve_line.why c.args.client c.pieces.core c.serve_line.new.core (g.O.Sink.held c.pieces.sink) (g.O.Sink.held c.serve_line.new.sink) (evals (line ∷ []))) c.as_slice.ensures.value c.in-Err-serve_line.ensures.err)
+    (λ e. rose-earlier _ _ _ c.pieces.invariant.sink_counts c.in-Err-serve_end.ensures.never_falls (sink-rose c.in-Err-serve_end.why _ _ c.in-Err-serve_end.ensures.cause e))
+    (subst (λ (line : List ℕ). ServesPart c.in-Err-serve_end.why c.args.client c.pieces.core c.serve_end.new.core (g.O.Sink.held c.pieces.sink) (g.O.Sink.held c.serve_end.new.sink) (ending c.pieces.held line)) c.as_slice.ensures.value c.in-Err-serve_end.ensures.err)
 
-pub returns-in-Err-serve_line-clause-open : goal.returns-in-Err-serve_line-clause-open
-returns-in-Err-serve_line-clause-open g c = c.in-Err-serve_line.ensures.open
+pub returns-in-Err-serve_end-clause-open : goal.returns-in-Err-serve_end-clause-open
+returns-in-Err-serve_end-clause-open g c = c.in-Err-serve_end.ensures.open
 
 pub slice_bounds-serve_piece-end : goal.slice_bounds-serve_piece-end
 slice_bounds-serve_piece-end g c = omega (arith, c.in-Ok.ensures.bound, c.min-room.ensures, c.read_some.auto.buffer, c.pieces.auto.buffer, c.requires.piece)
@@ -72,13 +78,18 @@ pub serve_piece-requires-clause-open : goal.serve_piece-requires-clause-open
 serve_piece-requires-clause-open g c = c.pieces.invariant.open
 
 pub serve_piece-requires-clause-uncut : goal.serve_piece-requires-clause-uncut
-serve_piece-requires-clause-uncut g c = uncut-held c.pieces.held.items c.pieces.invariant.reading.read c.pieces.invariant.reading.held
+serve_piece-requires-clause-uncut g c = uncut-begun c.pieces.begun.items c.pieces.invariant.reading.read c.pieces.invariant.reading.begun
+
+pub serve_piece-requires-clause-few : goal.serve_piece-requires-clause-few
+serve_piece-requires-clause-few g c =
+    let within : c.in-Ok.count ≤ length c.read_some.new.buffer = omega (arith, c.in-Ok.ensures.bound, c.min-room.ensures, c.read_some.auto.buffer, c.pieces.auto.buffer, c.requires.piece) in
+    omega (arith, within, length-take c.in-Ok.count c.read_some.new.buffer, c.in-Ok.ensures.bound, c.min-room.ensures, c.pieces.invariant.few, c.pieces.invariant.short)
 
 pub returns-in-Err-serve_piece-clause-served : goal.returns-in-Err-serve_piece-clause-served
 returns-in-Err-serve_piece-clause-served g c =
     let within : c.in-Ok.count ≤ length c.read_some.new.buffer = omega (arith, c.in-Ok.ensures.bound, c.min-room.ensures, c.read_some.auto.buffer, c.pieces.auto.buffer, c.requires.piece) in
     let few : c.pieces.total + length (take c.in-Ok.count c.read_some.new.buffer) ≤ most_input = omega (arith, within, length-take c.in-Ok.count c.read_some.new.buffer, c.in-Ok.ensures.bound, c.min-room.ensures, c.pieces.invariant.few) in
-    served-part-piece _ _ c.in-Err-serve_piece.why _ c.status-in-Err-serve_piece.result _ _ _ _ _ _ _ _ _ c.pieces.held.items (take c.in-Ok.count c.read_some.new.buffer) c.pieces.total c.pieces.invariant.reading
+    served-part-piece _ _ c.in-Err-serve_piece.why _ c.status-in-Err-serve_piece.result _ _ _ _ _ _ _ _ _ c.pieces.held c.pieces.begun.items (take c.in-Ok.count c.read_some.new.buffer) c.pieces.total c.pieces.invariant.reading
     c.in-Ok.ensures.bytes few c.status-in-Err-serve_piece.ensures
     (λ e. rose-earlier _ _ _ c.pieces.invariant.sink_counts c.in-Err-serve_piece.ensures.never_falls (sink-rose c.in-Err-serve_piece.why _ _ c.in-Err-serve_piece.ensures.cause e)) c.in-Err-serve_piece.ensures.err
 
@@ -87,6 +98,26 @@ returns-in-Err-serve_piece-clause-open g c = c.in-Err-serve_piece.ensures.open
 
 pub overflow_add-total : goal.overflow_add-total
 overflow_add-total g c = omega (arith, c.in-Ok.ensures.bound, c.min-room.ensures, c.pieces.invariant.few)
+
+pub returns-then-total-lt-MOST_INPUT-clause-served : goal.returns-then-total-lt-MOST_INPUT-clause-served
+returns-then-total-lt-MOST_INPUT-clause-served g c =
+    let within : c.in-Ok.count ≤ length c.read_some.new.buffer = omega (arith, c.in-Ok.ensures.bound, c.min-room.ensures, c.read_some.auto.buffer, c.pieces.auto.buffer, c.requires.piece) in
+    let less : c.pieces.total + length (take c.in-Ok.count c.read_some.new.buffer) < most_input = omega (arith, within, length-take c.in-Ok.count c.read_some.new.buffer, c.if-total-lt-MOST_INPUT.true) in
+    served-exit _ _ _ _ _ _ _ _ _ _ _ _ c.pieces.held c.in-Ok-serve_piece.behind c.pieces.begun.items (take c.in-Ok.count c.read_some.new.buffer) c.pieces.total c.pieces.invariant.reading
+    c.in-Ok.ensures.bytes less c.in-Ok-serve_piece.ensures.ok c.if-behind.true
+
+pub returns-then-total-lt-MOST_INPUT-clause-open : goal.returns-then-total-lt-MOST_INPUT-clause-open
+returns-then-total-lt-MOST_INPUT-clause-open g c = c.in-Ok-serve_piece.ensures.open
+
+pub returns-then-behind-clause-served : goal.returns-then-behind-clause-served
+returns-then-behind-clause-served g c =
+    let within : c.in-Ok.count ≤ length c.read_some.new.buffer = omega (arith, c.in-Ok.ensures.bound, c.min-room.ensures, c.read_some.auto.buffer, c.pieces.auto.buffer, c.requires.piece) in
+    let full : c.pieces.total + length (take c.in-Ok.count c.read_some.new.buffer) ≡ most_input = omega (arith, within, length-take c.in-Ok.count c.read_some.new.buffer, c.if-total-lt-MOST_INPUT.false, c.in-Ok.ensures.bound, c.min-room.ensures, c.pieces.invariant.few) in
+    served-exit-most _ _ _ _ _ _ _ _ _ _ _ _ c.pieces.held c.in-Ok-serve_piece.behind c.pieces.begun.items (take c.in-Ok.count c.read_some.new.buffer) c.pieces.total c.pieces.invariant.reading
+    c.in-Ok.ensures.bytes full c.in-Ok-serve_piece.ensures.ok
+
+pub returns-then-behind-clause-open : goal.returns-then-behind-clause-open
+returns-then-behind-clause-open g c = c.in-Ok-serve_piece.ensures.open
 
 pub pieces-smaller : goal.pieces-smaller
 pieces-smaller g c =
@@ -102,8 +133,9 @@ pieces-preserved g c =
     record {
       «open» = c.in-Ok-serve_piece.ensures.open;
       few = omega (arith, c.in-Ok.ensures.bound, c.min-room.ensures, c.pieces.invariant.few);
-      reading = reading-more _ _ _ _ _ _ _ _ _ _ c.pieces.held.items (take c.in-Ok.count c.read_some.new.buffer) _ c.pieces.total (c.pieces.total + c.in-Ok.count) c.pieces.invariant.reading
-          c.in-Ok.ensures.bytes long c.in-Ok-serve_piece.ensures.ok c.in-Ok-serve_piece.ensures.held;
+      short = omega (arith, c.in-Ok-serve_piece.ensures.few c.if-behind.false, c.pieces.invariant.short, long);
+      reading = reading-more _ _ _ _ _ _ _ _ _ _ c.pieces.held c.in-Ok-serve_piece.behind c.pieces.begun.items (take c.in-Ok.count c.read_some.new.buffer) _ c.pieces.total (c.pieces.total + c.in-Ok.count) c.pieces.invariant.reading
+          c.in-Ok.ensures.bytes long c.in-Ok-serve_piece.ensures.ok c.if-behind.false (c.in-Ok-serve_piece.ensures.begun c.if-behind.false);
       source_counts = omega (arith, c.pieces.invariant.source_counts, c.in-Ok.ensures.never_falls);
       sink_counts = omega (arith, c.pieces.invariant.sink_counts, c.in-Ok-serve_piece.ensures.never_falls);
     }
@@ -111,7 +143,7 @@ pieces-preserved g c =
 pub returns-clause-served : goal.returns-clause-served
 returns-clause-served g c =
     let full : c.pieces.total ≡ most_input = omega (arith, c.pieces-test.false, c.pieces.invariant.few) in
-    served-most _ _ _ _ _ _ _ _ _ c.pieces.held.items c.pieces.total c.pieces.invariant.reading full
+    served-most _ _ _ _ _ _ _ _ _ c.pieces.held c.pieces.begun.items c.pieces.total c.pieces.invariant.reading full
 
 pub returns-clause-open : goal.returns-clause-open
 returns-clause-open g c = c.pieces.invariant.open

@@ -1,5 +1,6 @@
--- So much was read, its whole lines were served, and its rest is held.
-use Rattle.std.proofs.Common.{◌≤◌, ◌-◌}
+-- So much was read, its whole lines were served, its rest begins a line, and what waits is held.
+use Rattle.std.proofs.Common.{◌≤◌, ◌-◌, ◌+◌, ◌*◌, length}
+use Rattle.jsh_cut.specs.Commands.{held_text}
 use Rattle.jsh_shell.specs.Budget.{most_input}
 use Rattle.jsh_shell.specs.Serving.{IsOpen}
 use Rattle.jsh_shell.proofs.ReadLemmas.{IsReading}
@@ -9,7 +10,8 @@ abbrev pub invariant-pieces : goal.invariant-pieces
 invariant-pieces g l = record {
   «open» : IsOpen l.client l.core;
   few : l.total ≤ most_input;
-  reading : IsReading l.client l.initial.core l.core (g.I.Source.left l.initial.source) (g.I.Source.left l.source) (g.O.Sink.held l.initial.sink) (g.O.Sink.held l.sink) l.held.items l.total;
+  short : length (held_text l.held) + 3 * length l.begun.items ≤ 3 * l.total;
+  reading : IsReading l.client l.initial.core l.core (g.I.Source.left l.initial.source) (g.I.Source.left l.source) (g.O.Sink.held l.initial.sink) (g.O.Sink.held l.sink) l.held l.begun.items l.total;
   source_counts : g.I.Source.faults l.initial.source ≤ g.I.Source.faults l.source;
   sink_counts : g.O.Sink.faults l.initial.sink ≤ g.O.Sink.faults l.sink;
 }
