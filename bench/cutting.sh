@@ -25,11 +25,11 @@ INPUTS = (
     ("a block over lines", 2000, lambda n: b"{\n" + b"if (a) b(c);\n" * n + b"}\n"),
     ("a sum over lines", 8000, lambda n: b"1 +\n" * n + b"1\n"),
     ("a comment over lines", 8000, lambda n: b"1 + /*\n" + b"* c\n" * n + b"*/ 2\n"),
-    ("blank lines behind a text", 50000, lambda n: b"1 +\n" + b"\n" * n + b"2\n"),
-    ("blank lines in a comment", 50000, lambda n: b"1 + /*\n" + b"\n" * n + b"*/ 2\n"),
-    ("comments behind a text", 50000, lambda n: b"1 +\n" + b"// c\n" * n + b"2\n"),
+    ("blank lines behind a text", 30000, lambda n: b"1 +\n" + b"\n" * n + b"2\n"),
+    ("blank lines in a comment", 30000, lambda n: b"1 + /*\n" + b"\n" * n + b"*/ 2\n"),
+    ("comments behind a text", 6000, lambda n: b"1 +\n" + b"// c\n" * n + b"2\n"),
     ("sums on one line", 4000, lambda n: b"1;" * n + b"\n"),
-    ("words on one line", 2000, lambda n: b"else " * n + b"\n"),
+    ("words on one line", 6000, lambda n: b"else " * n + b"\n"),
 )
 none = least(b"")[0]
 print(f"{'input':<28}{'count':>8}{'bytes':>9}{'ms':>9}{'ns a byte':>11}{'to half':>9}  last line")
