@@ -12,7 +12,7 @@ pub struct ModifierUse {
 }
 
 /// An import (JLS 7.5).
-#[derive(Clone, Debug, PartialEq, Eq, Drop)]
+#[derive(Debug, PartialEq, Eq, Drop)]
 pub struct Import {
     /// The word `import`.
     pub span: Span,
@@ -23,7 +23,7 @@ pub struct Import {
 }
 
 /// A parameter of a method or a constructor (JLS 8.4.1).
-#[derive(Clone, Debug, PartialEq, Eq, Drop)]
+#[derive(Debug, PartialEq, Eq, Drop)]
 pub struct Parameter {
     pub is_final: bool,
     pub written: TypeUse,
@@ -31,7 +31,7 @@ pub struct Parameter {
 }
 
 /// A method, of a type or by itself (JLS 8.4, 9.4).
-#[derive(Clone, PartialEq, Eq, Drop)]
+#[derive(PartialEq, Eq, Drop)]
 pub struct MethodDeclaration {
     pub modifiers: Seq<ModifierUse>,
     /// None for `void`.
@@ -44,7 +44,7 @@ pub struct MethodDeclaration {
 }
 
 /// A field of a class (JLS 8.3).
-#[derive(Clone, PartialEq, Eq, Drop)]
+#[derive(PartialEq, Eq, Drop)]
 pub struct FieldDeclaration {
     pub modifiers: Seq<ModifierUse>,
     pub written: TypeUse,
@@ -53,7 +53,7 @@ pub struct FieldDeclaration {
 }
 
 /// `this(arguments);` or `super(arguments);` at the head of a constructor (JLS 8.8.7.1).
-#[derive(Clone, PartialEq, Eq, Drop)]
+#[derive(PartialEq, Eq, Drop)]
 pub struct ConstructorCall {
     /// The word `this` or `super`.
     pub span: Span,
@@ -62,7 +62,7 @@ pub struct ConstructorCall {
 }
 
 /// A constructor (JLS 8.8).
-#[derive(Clone, PartialEq, Eq, Drop)]
+#[derive(PartialEq, Eq, Drop)]
 pub struct ConstructorDeclaration {
     pub modifiers: Seq<ModifierUse>,
     pub name: Identifier,
@@ -75,7 +75,7 @@ pub struct ConstructorDeclaration {
 }
 
 /// A member of a class (JLS 8.1.7). A semicolon by itself is none.
-#[derive(Clone, PartialEq, Eq, Drop)]
+#[derive(PartialEq, Eq, Drop)]
 pub enum MemberDeclaration {
     Field(FieldDeclaration),
     Method(MethodDeclaration),
@@ -83,7 +83,7 @@ pub enum MemberDeclaration {
 }
 
 /// A class (JLS 8.1).
-#[derive(Clone, PartialEq, Eq, Drop)]
+#[derive(PartialEq, Eq, Drop)]
 pub struct ClassDeclaration {
     pub modifiers: Seq<ModifierUse>,
     pub name: Identifier,
@@ -93,7 +93,7 @@ pub struct ClassDeclaration {
 }
 
 /// An interface (JLS 9.1). Each of its methods has no body.
-#[derive(Clone, PartialEq, Eq, Drop)]
+#[derive(PartialEq, Eq, Drop)]
 pub struct InterfaceDeclaration {
     pub modifiers: Seq<ModifierUse>,
     pub name: Identifier,

@@ -4,14 +4,14 @@ use crate::seq::Seq;
 use crate::token::Span;
 
 /// A name where it stands.
-#[derive(Clone, Debug, PartialEq, Eq, Drop)]
+#[derive(Debug, PartialEq, Eq, Drop)]
 pub struct Identifier {
     pub name: Name,
     pub span: Span,
 }
 
 /// A type where it is written.
-#[derive(Clone, Debug, PartialEq, Eq, Drop)]
+#[derive(Debug, PartialEq, Eq, Drop)]
 pub struct TypeUse {
     pub written: TypeWritten,
     /// Its word or simple name, without the brackets.
@@ -208,5 +208,3 @@ pub enum Initial {
         values: Seq<Initial>,
     },
 }
-
-mod copies;

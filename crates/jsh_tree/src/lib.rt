@@ -10,11 +10,13 @@ mod declaration;
 mod diagnostic;
 mod expression;
 mod key;
+mod library;
 mod modifier;
 mod name;
 mod seq;
 mod source;
 mod statement;
+mod text;
 mod token;
 mod tree;
 
@@ -29,6 +31,7 @@ pub use expression::{
     TypeUse, UnaryOperator,
 };
 pub use key::{Field, Header, Key, Link, Signature};
+pub use library::{Library, LibraryConstant, LibraryMethod, LibraryType, Member, Query};
 pub use modifier::Modifier;
 pub use name::{Name, TypeWritten};
 pub use seq::Seq;
@@ -36,5 +39,6 @@ pub use source::SrcText;
 pub use statement::{
     Block, BlockStatement, CatchClause, ForStart, Stmt, SwitchGroup, SwitchLabel, Variable,
 };
+pub use text::{MOST_SOURCE, is_white};
 pub use token::{Span, Token, TokenKind};
-pub use tree::{AdditiveOperator, Part, Sum, Tree};
+pub use tree::Tree;

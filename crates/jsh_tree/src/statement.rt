@@ -3,8 +3,6 @@ use crate::expression::{Expr, Identifier, Initial, Literal, TypeUse};
 use crate::seq::Seq;
 use crate::token::Span;
 
-mod copies;
-
 /// A statement (JLS 14).
 #[cycle(statement)]
 #[derive(PartialEq, Eq, Drop)]
@@ -98,7 +96,12 @@ pub struct Block {
 #[cycle(statement)]
 #[derive(PartialEq, Eq, Drop)]
 pub enum BlockStatement {
-    Local { is_final: bool, variable: Variable },
+    Local {
+        /// Where the statement begins: the word `final`, or else the type or the word `var`.
+        span: Span,
+        is_final: bool,
+        variable: Variable,
+    },
     Statement(Stmt),
 }
 
@@ -121,7 +124,7 @@ pub struct CatchClause {
 }
 
 /// `case 'a':`, `case -1:` or `default:`
-#[derive(Clone, Debug, PartialEq, Eq, Drop)]
+#[derive(Debug, PartialEq, Eq, Drop)]
 pub enum SwitchLabel {
     Case {
         /// The literal's, or the minus's.
@@ -135,7 +138,7 @@ pub enum SwitchLabel {
 }
 
 /// A variable as it is declared (JLS 14.4, 8.3).
-#[derive(Clone, PartialEq, Eq, Drop)]
+#[derive(PartialEq, Eq, Drop)]
 pub struct Variable {
     /// None for `var`.
     pub written: Option<TypeUse>,
@@ -144,9 +147,14 @@ pub struct Variable {
 }
 
 /// What a `for` begins with (JLS 14.14.1).
-#[derive(Clone, PartialEq, Eq, Drop)]
+#[derive(PartialEq, Eq, Drop)]
 pub enum ForStart {
     Nothing,
-    Local { is_final: bool, variable: Variable },
+    Local {
+        /// Where it begins: the word `final`, or else the type or the word `var`.
+        span: Span,
+        is_final: bool,
+        variable: Variable,
+    },
     Expression(Expr),
 }

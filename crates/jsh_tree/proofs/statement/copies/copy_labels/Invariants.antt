@@ -1,6 +1,0 @@
--- The copies are those of the items so far.
-use Rattle.std.proofs.Common.{◌≡◌, take}
-use Rattle.jsh_tree.proofs.statement.copies.copy_labels.Given as goal
-
-abbrev pub invariant-loop-label : goal.invariant-loop-label
-invariant-loop-label l = l.copies.items ≡ take l.label-index l.label-items
