@@ -12,7 +12,8 @@ use Rattle.jsh_complete.specs.declared.completion.Completeness.{Completeness}
 use Rattle.jsh_complete.specs.declared.completion.Completeness.TheVariants as completeness
 use Rattle.jsh_complete.specs.declared.completion.Completion.{Completion}
 use Rattle.jsh_complete.proofs.Total.{completes}
-use Rattle.jsh_lines.specs.Lines.{is_white, is_blank, as_text, input_lines}
+use Rattle.jsh_tree.specs.Text.{is_white}
+use Rattle.jsh_lines.specs.Lines.{is_blank, as_text, input_lines}
 use Rattle.jsh_cut.specs.declared.command.Command.{Command}
 use Rattle.jsh_cut.specs.declared.command.Command.TheVariants as command
 use Rattle.jsh_cut.specs.declared.held.Held.{Held}

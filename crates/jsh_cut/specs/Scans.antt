@@ -7,7 +7,7 @@ use Rattle.jsh_lex.specs.declared.lexeme.LexFault.{LexFault}
 use Rattle.jsh_lex.specs.Lexis.{Lexed}
 use Rattle.jsh_lex.specs.Lexis as lexis
 use Rattle.jsh_pieces.specs.Pieces.{moved_lexed, joined}
-use Rattle.jsh_lines.specs.Lines.{is_white}
+use Rattle.jsh_tree.specs.Text.{is_white}
 use Rattle.jsh_complete.specs.declared.reading.Reader.{Reader}
 use Rattle.jsh_complete.specs.Reading.{HasRead}
 use Rattle.jsh_cut.specs.declared.edge.Edge.{Edge}

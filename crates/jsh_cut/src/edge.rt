@@ -5,6 +5,8 @@ ghost use Rattle.std.specs.Str.{IsCharBoundary};
 ghost use Rattle.jsh_lex.specs.Chars.{drop_while};
 ghost use Rattle.jsh_cut.specs.Scans.{is_outer};
 
+use jsh_tree::is_white;
+
 /// The characters that don't count.
 #[derive(Clone, Copy, Debug)]
 pub enum Edge {
@@ -20,7 +22,7 @@ fn is_outer(edge: Edge, byte: u8) -> bool
     ensures { result ≡ is_outer edge byte }
 {
     match edge {
-        Edge::White => matches!(byte, b' ' | b'\t' | b'\x0c' | b'\r' | b'\n'),
+        Edge::White => is_white(byte),
         Edge::Blank => matches!(byte, b' ' | b'\t'),
         Edge::BlankOrReturn => matches!(byte, b' ' | b'\t' | b'\r'),
     }

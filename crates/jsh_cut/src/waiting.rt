@@ -4,7 +4,7 @@ ghost use Rattle.std.specs.Prelude.{◌≡◌, ◌+◌, ◌-◌, ◌^◌, ◌<�
 ghost use Rattle.std.specs.Option.{option_map};
 ghost use Rattle.std.specs.Str.{IsCharBoundary};
 ghost use Rattle.jsh_lex.specs.Chars.{drop_while};
-ghost use Rattle.jsh_lines.specs.Lines.{is_white};
+ghost use Rattle.jsh_tree.specs.Text.{is_white};
 ghost use Rattle.jsh_complete.specs.declared.completion.Completeness.TheVariants as completeness;
 ghost use Rattle.jsh_cut.specs.Commands as spec;
 

@@ -10,7 +10,8 @@ use Rattle.jsh_tree.specs.declared.token.TokenKind.{TokenKind}
 use Rattle.jsh_lex.specs.declared.lexeme.Lexeme.{Lexeme}
 use Rattle.jsh_lex.specs.declared.lexeme.Lexeme.TheVariants.{Gap, Spelled, Wrong}
 use Rattle.jsh_lex.specs.declared.lexeme.LexFault.TheVariants.{FloatNotHere}
-use Rattle.jsh_lex.specs.Chars.{is_white, is_in_line, is_line_end, is_identifier_start, is_identifier_part, take_while, begins, first_passes}
+use Rattle.jsh_tree.specs.Text.{is_white}
+use Rattle.jsh_lex.specs.Chars.{is_in_line, is_line_end, is_identifier_start, is_identifier_part, take_while, begins, first_passes}
 use Rattle.jsh_lex.specs.Number.{integer, is_float}
 use Rattle.jsh_lex.specs.Literal.{behind_quote, content, escapes_next, string, character}
 use Rattle.jsh_lex.specs.Table.{operator, operators, operator_in, longer_stand_first, operators_in_order}

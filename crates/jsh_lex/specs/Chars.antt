@@ -2,10 +2,6 @@
 use Rattle.std.specs.Prelude.{ℕ, Bool, true, false, ◌&&◌, ◌||◌, if◌then◌else◌, ◌==◌, List, [], ◌∷◌, length, encode_utf8_all}
 use Rattle.unicode_ident.specs.Ident.{is_xid_start, is_xid_continue}
 
--- white space: space, tab, form feed, and the ends of a line (JLS 3.6)
-abbrev pub is_white : ℕ → Bool
-is_white c = c == 32 || c == 9 || c == 12 || c == 13 || c == 10
-
 -- what ends a line: CR and LF (JLS 3.4)
 abbrev pub is_line_end : ℕ → Bool
 is_line_end c = c == 13 || c == 10

@@ -9,7 +9,8 @@ use Rattle.jsh_lex.specs.declared.lexeme.LexFault.{LexFault}
 use Rattle.jsh_lex.specs.declared.lexeme.LexFault.TheVariants.{OpenComment, OpenString, FloatNotHere}
 use Rattle.jsh_lex.specs.declared.lexeme.Lexeme.{Lexeme}
 use Rattle.jsh_lex.specs.declared.lexeme.Lexeme.TheVariants.{Gap, Spelled, Wrong}
-use Rattle.jsh_lex.specs.Chars.{is_white, is_in_line, is_identifier_start, is_identifier_part, take_while, drop_while, begins, first_passes, width}
+use Rattle.jsh_tree.specs.Text.{is_white}
+use Rattle.jsh_lex.specs.Chars.{is_in_line, is_identifier_start, is_identifier_part, take_while, drop_while, begins, first_passes, width}
 use Rattle.jsh_lex.specs.Number.{is_float, integer}
 use Rattle.jsh_lex.specs.Literal.{behind_quote, content, string, character}
 use Rattle.jsh_lex.specs.Table.{word_kind, operator}

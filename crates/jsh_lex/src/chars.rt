@@ -3,6 +3,7 @@
 ghost use Rattle.std.specs.Prelude.{◌≡◌, ◌+◌, ◌<◌, ◌≤◌, ◌||◌, ◌==◌, [], ◌∷◌, length, drop, codes, IfNone, IfSome, MatchOption, true, false};
 ghost use Rattle.std.specs.Char.{is_ascii_digit};
 ghost use Rattle.std.specs.Str.{chars};
+ghost use Rattle.jsh_tree.specs.Text.{is_white};
 ghost use Rattle.jsh_lex.specs.Chars as spec;
 ghost use Rattle.jsh_lex.specs.Lexis.{behind_comment, behind_word, word_bytes};
 
@@ -29,9 +30,12 @@ pub fn no_text() -> &'static str
 }
 
 pub fn is_white(c: char) -> bool
-    ensures { result ≡ spec.is_white c }
+    ensures { result ≡ is_white c }
 {
-    matches!(c, ' ' | '\t' | '\x0c' | '\r' | '\n')
+    match u8::try_from(c) {
+        Ok(byte) => jsh_tree::is_white(byte),
+        Err(_) => false,
+    }
 }
 
 pub fn is_in_line(c: char) -> bool
@@ -54,7 +58,7 @@ pub fn is_identifier_part(c: char) -> bool
 
 /// The text behind its white space.
 pub fn behind_white(mut text: &str) -> &str
-    ensures rest { chars result.now ≡ spec.drop_while spec.is_white (chars text.entry.now) }
+    ensures rest { chars result.now ≡ spec.drop_while is_white (chars text.entry.now) }
     ensures length { length result.now ≤ length text.entry.now }
 {
     while let Some((c, rest)) = split_first(text) {

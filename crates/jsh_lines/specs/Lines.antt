@@ -1,11 +1,8 @@
 -- How a client's input is cut into lines, and how a line is read as text.
-use Rattle.std.specs.Prelude.{◌≡◌, ℕ, zero, suc, ◌+◌, ◌<◌, Bool, false, ◌||◌, ◌==◌, List, [], ◌∷◌, ◌++◌, length, take, drop, if◌then◌else◌}
+use Rattle.std.specs.Prelude.{◌≡◌, ℕ, zero, suc, ◌+◌, ◌<◌, Bool, false, ◌==◌, List, [], ◌∷◌, ◌++◌, length, take, drop, if◌then◌else◌}
 use Rattle.std.specs.List.{list_any, list_all}
 use Rattle.std.specs.Str.Lossy.{utf8_valid_len, replacement_bytes}
-
--- space, tab, form feed, carriage return, line feed (JLS 3.4, 3.6)
-abbrev pub is_white : ℕ → Bool
-is_white byte = byte == 32 || byte == 9 || byte == 12 || byte == 13 || byte == 10
+use Rattle.jsh_tree.specs.Text.{is_white}
 
 -- nothing but white space
 abbrev pub is_blank : List ℕ → Bool

@@ -4,9 +4,10 @@
 ghost use Rattle.std.specs.Prelude.{◌≡◌, ◌<◌, ◌≤◌, ◌++◌, false, length, take, drop, IfOk, MatchOption};
 ghost use Rattle.std.specs.String.{string_bytes};
 ghost use Rattle.std.specs.Str.Lossy.{utf8_valid_len};
-ghost use Rattle.jsh_lines.specs.Lines.{IsFirstLineFeed, as_text, has_line_feed, is_blank, is_white};
+ghost use Rattle.jsh_tree.specs.Text.{is_white};
+ghost use Rattle.jsh_lines.specs.Lines.{IsFirstLineFeed, as_text, has_line_feed, is_blank};
 
-use jsh_tree::SrcText;
+use jsh_tree::{SrcText, is_white};
 use std::alloc::{AllocError, Global};
 
 /// Whether a line has nothing but white space (JLS 3.6), so that it is no snippet.
@@ -14,12 +15,6 @@ pub fn is_blank(line: &[u8]) -> bool
     ensures { result ≡ is_blank line.now }
 {
     line.iter().all(|byte| is_white(*byte))
-}
-
-fn is_white(byte: u8) -> bool
-    ensures { result ≡ is_white byte }
-{
-    byte == b' ' || byte == b'\t' || byte == b'\x0c' || byte == b'\r' || byte == b'\n'
 }
 
 /// The place of the first line feed in a piece of input, if it has one.

@@ -5,7 +5,8 @@ use Rattle.std.specs.Char.{is_ascii_digit}
 use Rattle.std.specs.List.{list_all, list_any}
 use Rattle.std.specs.Prelude.{codes}
 use Rattle.jsh_tree.specs.declared.token.TokenKind.{TokenKind}
-use Rattle.jsh_lex.specs.Chars.{is_white, drop_while, begins}
+use Rattle.jsh_tree.specs.Text.{is_white}
+use Rattle.jsh_lex.specs.Chars.{drop_while, begins}
 use Rattle.jsh_lex.specs.Number.{is_float, is_float_mark}
 use Rattle.jsh_lex.specs.Spelling.{Lists}
 use Rattle.jsh_lex.specs.Table.{operators}

@@ -8,7 +8,8 @@ use Rattle.jsh_lex.specs.declared.lexeme.LexFault.{LexFault}
 use Rattle.jsh_lex.specs.declared.lexeme.LexFault.TheVariants.{OpenComment}
 use Rattle.jsh_lex.specs.declared.lexeme.Lexeme.{Lexeme}
 use Rattle.jsh_lex.specs.declared.lexeme.Lexeme.TheVariants.{Gap, Spelled, Wrong}
-use Rattle.jsh_lex.specs.Chars.{is_white, is_identifier_start, begins, first_passes}
+use Rattle.jsh_tree.specs.Text.{is_white}
+use Rattle.jsh_lex.specs.Chars.{is_identifier_start, begins, first_passes}
 use Rattle.jsh_lex.specs.Literal.{behind_quote, content, escapes_hold, unit_of, is_unit, string, character}
 use Rattle.jsh_lex.specs.Number.{is_float, integer, is_integer, is_in_range}
 use Rattle.jsh_lex.specs.Table.{operator, operators, operator_in}

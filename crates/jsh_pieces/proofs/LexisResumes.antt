@@ -9,7 +9,8 @@ use Rattle.jsh_tree.specs.declared.token.Token.{Token}
 use Rattle.jsh_lex.specs.declared.lexeme.LexFault.TheVariants.{OpenComment}
 use Rattle.jsh_lex.specs.declared.lexeme.Lexeme.{Lexeme}
 use Rattle.jsh_lex.specs.declared.lexeme.Lexeme.TheVariants.{Gap, Spelled, Wrong}
-use Rattle.jsh_lex.specs.Chars.{is_white, drop_while, width}
+use Rattle.jsh_tree.specs.Text.{is_white}
+use Rattle.jsh_lex.specs.Chars.{drop_while, width}
 use Rattle.jsh_lex.specs.Lexis.{Front, Lexed, front, lexed, add_lexeme, place, tokens}
 use Rattle.jsh_pieces.specs.Pieces.{moved_lexed, joined, ends_line, CanResume}
 use Rattle.jsh_pieces.proofs.LexisSteps.{IsRight, taken, width-append, drop_while_le, leaves_fewer, lexed_same}

@@ -6,7 +6,8 @@ use Rattle.std.proofs.lemmas.Str.{encodes-append}
 use Rattle.jsh_tree.specs.declared.token.TokenKind.{TokenKind}
 use Rattle.jsh_lex.specs.declared.lexeme.Lexeme.{Lexeme}
 use Rattle.jsh_lex.specs.declared.lexeme.Lexeme.TheVariants.{Gap, Spelled, Wrong}
-use Rattle.jsh_lex.specs.Chars.{is_white, is_in_line, is_identifier_start, is_identifier_part, drop_while, begins, first_passes, width}
+use Rattle.jsh_tree.specs.Text.{is_white}
+use Rattle.jsh_lex.specs.Chars.{is_in_line, is_identifier_start, is_identifier_part, drop_while, begins, first_passes, width}
 use Rattle.jsh_lex.specs.Literal.{behind_quote, content, string, character}
 use Rattle.jsh_lex.specs.Number.{is_float}
 use Rattle.jsh_lex.specs.Table.{operator, operators, operator_in}

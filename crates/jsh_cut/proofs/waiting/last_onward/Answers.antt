@@ -1,7 +1,7 @@
 use Rattle.std.proofs.Common.{◌≡◌, ◌∙◌, ℕ, ◌+◌, ◌<◌, List, take, drop, reverse, length, ap, sym, subst, arith}
 use Rattle.std.proofs.lemmas.List.{length-take-le, take-append-drop}
 use Rattle.jsh_lex.specs.Chars.{drop_while}
-use Rattle.jsh_lines.specs.Lines.{is_white}
+use Rattle.jsh_tree.specs.Text.{is_white}
 use Rattle.jsh_cut.proofs.Outer.{last_stays, last_later}
 use Rattle.jsh_cut.proofs.waiting.last_onward.Goals as goal
 
