@@ -55,21 +55,21 @@ counts_of ts fault =
 abbrev Tells : Bool → Type 0 → Type 0
 Tells b A = MatchBool b A (A → ⊥)
 
-both : {A B : Type 0} (a b : Bool) → Tells a A → Tells b B → Tells (a && b) (A × B)
-both true true x y = (x, y)
-both true false x never = λ h. never h.1
-both false b never y = λ h. never h.0
+both : (A B : Type 0) (a b : Bool) → Tells a A → Tells b B → Tells (a && b) (A × B)
+both A B true true x y = (x, y)
+both A B true false x never = λ h. never h.1
+both A B false b never y = λ h. never h.0
 
-all_three : {A B C : Type 0} (a b c : Bool) → Tells a A → Tells b B → Tells c C → Tells (a && (b && c)) (A × B × C)
-all_three true true true x y z = (x, y, z)
-all_three true true false x y never = λ h. never h.2
-all_three true false c x never z = λ h. never h.1
-all_three false b c never y z = λ h. never h.0
+all_three : (A B C : Type 0) (a b c : Bool) → Tells a A → Tells b B → Tells c C → Tells (a && (b && c)) (A × B × C)
+all_three A B C true true true x y z = (x, y, z)
+all_three A B C true true false x y never = λ h. never h.2
+all_three A B C true false c x never z = λ h. never h.1
+all_three A B C false b c never y z = λ h. never h.0
 
-one_of : {A B : Type 0} (a b : Bool) → Tells a A → Tells b B → Tells (a || b) (A ⊎ B)
-one_of true b x y = inl x
-one_of false true never y = inr y
-one_of false false never neither = λ h. elim h [ inl x ↦ never x | inr y ↦ neither y ]
+one_of : (A B : Type 0) (a b : Bool) → Tells a A → Tells b B → Tells (a || b) (A ⊎ B)
+one_of A B true b x y = inl x
+one_of A B false true never y = inr y
+one_of A B false false never neither = λ h. elim h [ inl x ↦ never x | inr y ↦ neither y ]
 
 ends_tells : (stop : Stop) → Tells (ends stop) (stop ≡ at_end)
 ends_tells at_end = refl
@@ -105,7 +105,7 @@ never_tells ks false never = λ room is. never (room, is)
 
 semicolon_tells : (ks : List TokenKind) → Tells (lacks_only_semicolon ks) (LacksSemicolon ks)
 semicolon_tells ks =
-    both (is_snippet (ks ++ token.Semicolon ∷ [])) (not (may_come ks token.LeftBrace)) (snippet_tells (ks ++ token.Semicolon ∷ []))
+    both _ _ (is_snippet (ks ++ token.Semicolon ∷ [])) (not (may_come ks token.LeftBrace)) (snippet_tells (ks ++ token.Semicolon ∷ []))
     (never_tells ks (may_come ks token.LeftBrace) (come_tells ks token.LeftBrace))
 
 -- ---- the longest snippet
@@ -146,17 +146,17 @@ begins_tells ts = begins_by ts (longest (kinds ts)) (longest_of_all ts) (nat_lt 
 -- ---- the first rule that applies
 
 applies_tells : (ts : List Token) (stop : Stop) (rule : Rule) → Tells (applies (kinds ts) stop rule) (Applies (kinds ts) stop rule)
-applies_tells ts stop no_tokens = both (ends stop) (are_none (kinds ts)) (ends_tells stop) (none_tells (kinds ts))
+applies_tells ts stop no_tokens = both _ _ (ends stop) (are_none (kinds ts)) (ends_tells stop) (none_tells (kinds ts))
 applies_tells ts stop else_may_follow =
-    all_three (ends stop) (is_snippet (kinds ts)) (may_go_on (kinds ts ++ token.Else ∷ [])) (ends_tells stop) (snippet_tells (kinds ts))
+    all_three _ _ _ (ends stop) (is_snippet (kinds ts)) (may_go_on (kinds ts ++ token.Else ∷ [])) (ends_tells stop) (snippet_tells (kinds ts))
     (go_on_tells (kinds ts ++ token.Else ∷ []))
-applies_tells ts stop whole = both (ends stop) (is_snippet (kinds ts)) (ends_tells stop) (snippet_tells (kinds ts))
-applies_tells ts stop lacks_semicolon = both (ends stop) (lacks_only_semicolon (kinds ts)) (ends_tells stop) (semicolon_tells (kinds ts))
+applies_tells ts stop whole = both _ _ (ends stop) (is_snippet (kinds ts)) (ends_tells stop) (snippet_tells (kinds ts))
+applies_tells ts stop lacks_semicolon = both _ _ (ends stop) (lacks_only_semicolon (kinds ts)) (ends_tells stop) (semicolon_tells (kinds ts))
 applies_tells ts stop lacks_more =
-    one_of (ends stop && may_go_on (kinds ts)) (leads_to_comment stop && (are_none (kinds ts) || may_go_on (kinds ts)))
-    (both (ends stop) (may_go_on (kinds ts)) (ends_tells stop) (go_on_tells (kinds ts)))
-    (both (leads_to_comment stop) (are_none (kinds ts) || may_go_on (kinds ts)) (comment_tells stop)
-    (one_of (are_none (kinds ts)) (may_go_on (kinds ts)) (none_tells (kinds ts)) (go_on_tells (kinds ts))))
+    one_of _ _ (ends stop && may_go_on (kinds ts)) (leads_to_comment stop && (are_none (kinds ts) || may_go_on (kinds ts)))
+    (both _ _ (ends stop) (may_go_on (kinds ts)) (ends_tells stop) (go_on_tells (kinds ts)))
+    (both _ _ (leads_to_comment stop) (are_none (kinds ts) || may_go_on (kinds ts)) (comment_tells stop)
+    (one_of _ _ (are_none (kinds ts)) (may_go_on (kinds ts)) (none_tells (kinds ts)) (go_on_tells (kinds ts))))
 applies_tells ts stop begins_whole = begins_tells ts
 applies_tells ts stop otherwise = tt
 
