@@ -16,3 +16,6 @@ pub use events::Event;
 pub use kinds::{Fate, Kind, Status, Subkind};
 pub use records::Record;
 pub use replies::{Collected, LimitKind, Line, Outcome, Refusal, Reply, ReplyBody, Submitted};
+
+#[cfg(test)]
+mod tests;
