@@ -91,11 +91,7 @@ fn settle(alloc: Global, text: Waiting, kind: Completeness) -> Result<Next, Allo
 }
 
 /// The same of what is left of a text, which is copied only where it waits.
-fn settle_left(
-    alloc: Global,
-    text: Remainder,
-    kind: Completeness,
-) -> Result<Next, AllocError>
+fn settle_left(alloc: Global, text: Remainder, kind: Completeness) -> Result<Next, AllocError>
     requires { kind ≢ completeness.Complete }
     ensures { IfOk result (λ next. (onward : List ℕ → Gives) → spec.given next ≡ commands.by_kind text onward kind) }
 {

@@ -36,8 +36,7 @@ returns-in_ok-from_text-in-Complete c =
     let to : beginning.end ≡ end_of (take beginning.count left) = subst (λ (ts : List Token). beginning.end ≡ end_of (take beginning.count ts)) same count.1 in
     let source : c.in_ok-from_text-in-Complete.field-0 ≡ slice_range own (begin_of own) (beginning.end - base) =
     c.in_ok-from_text-in-Complete.ensures
-    ∙ (c.first_source-source.ensures ∙ ap (λ (r : List ℕ). slice_range r (begin_of r) (beginning.end - base)) is) in
-    (
+    ∙ (c.first_source-source.ensures ∙ ap (λ (r : List ℕ). slice_range r (begin_of r) (beginning.end - base)) is) in (
       first_of text base beginning.end c.in_ok-from_text-in-Complete.field-0 (subst (λ (r : List ℕ). IsUtf8 r) is c.range_from-rest.utf8) kind end source,
       left_of text c.args.scan.now base c.args.read beginning.count beginning.end c.utf8.text c.requires end between count.0 few to,
     )
