@@ -1,5 +1,5 @@
 -- What each act of a command does to the progress of its client.
-use Rattle.std.proofs.Common.{IsSome, IfSome, ◌≡◌, ◌≢◌, ℕ, ◌+◌, ◌-◌, ◌<◌, ◌≤◌, true, false, List, [], ◌∷◌, ◌++◌, Option, None, Some, length, min, refl, ap, sym, subst, ◌∙◌, arith, eq-eqb, inl, inr, ◌⊎◌}
+use Rattle.std.proofs.Common.{IsSome, IfSome, ◌≡◌, ◌≢◌, ℕ, ◌+◌, ◌<◌, ◌≤◌, true, false, List, [], ◌∷◌, ◌++◌, Option, None, Some, length, refl, ap, sym, subst, ◌∙◌, arith, eq-eqb, inl, inr, ◌⊎◌}
 use Rattle.std.proofs.lemmas.Bool.{ne_eqb}
 use Rattle.std.proofs.Math.Seq.{take-length}
 use Rattle.std.specs.Io.KnownBytes.{append_known}
@@ -21,7 +21,7 @@ use Rattle.jsh_core.specs.Threads.{can_go_on}
 use Rattle.jsh_core.specs.Runs.{collect, is_thread_alive, run_view}
 use Rattle.jsh_core.specs.Step.{step, kept, kept_act, done_steps}
 use Rattle.jsh_core.specs.History.{state_of, act_bytes, MayDo}
-use Rattle.jsh_core.specs.Stands.{IsCutShort, HasTurned}
+use Rattle.jsh_core.specs.Stands.{IsCutShort}
 use Rattle.jsh_core.proofs.Evaluation.{IsEvaluated, IsAnswered, KeepsThreads, evaluated, submitted-answered, collect-over, collect-keeps, body_text, thread_behind}
 use Rattle.jsh_core.proofs.Picking.{picked-main}
 use Rattle.jsh_shell.specs.declared.halts.Halt.{Halt}
@@ -31,7 +31,7 @@ use Rattle.jsh_shell.specs.Progress.{Phase, Progress, Goes, GoesOn, IsTurn, comm
 use Rattle.jsh_shell.specs.Progress.Phase.{Between, Evaluating, CutShort}
 use Rattle.jsh_shell.specs.Transcript.{is_turn, transcript_after}
 use Rattle.jsh_shell.specs.Limited.{IsLimited, HasRest, HasRoomOf}
-use Rattle.jsh_shell.specs.Serving.{Advances, Halts, IsOpen, IsBetween, IsStarted, IsTaken, IsHandedIn, IsRunFresh, IsServable, IsSlash, HandsIn, ServesPart, Turns, TurnsPart, HandsOut, HandsOutPart, Shows, Fails, Serves}
+use Rattle.jsh_shell.specs.Serving.{Advances, Halts, IsOpen, IsBetween, IsStarted, IsTaken, IsHandedIn, IsRunFresh, IsServable, HandsIn, ServesPart, Turns, TurnsPart, HandsOut, HandsOutPart, Shows, Fails, Serves}
 use Rattle.jsh_shell.proofs.Walk.{goes-on, advances-one, advances-act, halts-one, halts-act, halts-here, transcript-turn, open-push, state_of-push, advances-append, append_known-nothing}
 
 -- a client's entry

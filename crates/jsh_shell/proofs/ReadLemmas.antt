@@ -1,5 +1,5 @@
 -- How the pieces that are read are served.
-use Rattle.std.proofs.Common.{◌≡◌, ℕ, ◌+◌, ◌<◌, ◌≤◌, Bool, true, false, not, List, [], ◌∷◌, ◌++◌, map, Option, IfSome, length, refl, ap, sym, subst, ◌∙◌, arith, append_assoc, append-nil, length-append, inl, inr, if◌then◌else◌}
+use Rattle.std.proofs.Common.{◌≡◌, ℕ, ◌+◌, ◌<◌, ◌≤◌, true, false, List, [], ◌++◌, map, Option, IfSome, length, refl, ap, sym, subst, ◌∙◌, arith, append_assoc, append-nil, length-append, inl, inr}
 use Rattle.std.proofs.lemmas.List.{map-append}
 use Rattle.std.specs.Io.KnownBytes.{prepend_known}
 use Rattle.jsh_io.proofs.Known.{prepend_known-prepend_known, prepend_known-nil}
@@ -10,10 +10,9 @@ use Rattle.jsh_lines.proofs.Cuts.{cut-append, cut-rest}
 use Rattle.jsh_cut.specs.declared.command.Command.{Command}
 use Rattle.jsh_cut.specs.declared.held.Held.{Held}
 use Rattle.jsh_cut.specs.declared.held.Held.TheVariants as held
-use Rattle.jsh_cut.specs.Commands.{Gives, before_exit, cut_end, cut_input, cut_lines, exits, onward, with_commands}
+use Rattle.jsh_cut.specs.Commands.{Gives, before_exit, cut_input, cut_lines, exits, with_commands}
 use Rattle.jsh_shell.specs.Cutting.{ServesCut, closing, ending, piece_gives}
 use Rattle.jsh_shell.specs.declared.halts.Halt.{Halt}
-use Rattle.jsh_shell.specs.declared.halts.Halt.TheVariants as halt
 use Rattle.jsh_shell.specs.declared.lines.Behind.{Behind}
 use Rattle.jsh_shell.specs.Budget.{default_budget, most_input}
 use Rattle.jsh_shell.specs.Statuses.{all_served, limit_met, read_failed}

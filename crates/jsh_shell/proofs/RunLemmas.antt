@@ -13,7 +13,6 @@ use Rattle.jsh_snippet.specs.declared.acts.Entry.{Entry}
 use Rattle.jsh_cut.specs.Commands.{before_exit, exits}
 use Rattle.jsh_cut.specs.declared.command.Command.{Command}
 use Rattle.jsh_core.specs.State.{State, opening}
-use Rattle.jsh_core.specs.Step.{step}
 use Rattle.jsh_core.specs.History.{state_of, state_after, Allows}
 use Rattle.jsh_shell.specs.declared.halts.Halt.{Halt}
 use Rattle.jsh_shell.specs.declared.halts.Halt.TheVariants as halt

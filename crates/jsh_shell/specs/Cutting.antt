@@ -1,5 +1,5 @@
 -- What was served of a client's input as far as it is cut, and what stands behind that.
-use Rattle.std.specs.Prelude.{◌≡◌, ℕ, Bool, not, List, [], ◌++◌, map, Option, if◌then◌else◌}
+use Rattle.std.specs.Prelude.{◌≡◌, ℕ, not, List, [], ◌++◌, map, Option, if◌then◌else◌}
 use Rattle.jsh_snippet.specs.declared.acts.Entry.{Entry}
 use Rattle.jsh_lines.specs.Lines.{as_text, cut, last_lines}
 use Rattle.jsh_cut.specs.declared.command.Command.{Command}

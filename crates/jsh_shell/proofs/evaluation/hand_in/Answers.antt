@@ -5,12 +5,11 @@ use Rattle.jsh_snippet.specs.declared.replies.Reply.{Reply}
 use Rattle.jsh_core.specs.Acts.{is_last}
 use Rattle.jsh_core.specs.Limits.{most_entries}
 use Rattle.jsh_core.specs.Snippets.{run_of}
-use Rattle.jsh_core.specs.History.{act_bytes, state_of, MayDo}
-use Rattle.jsh_core.specs.Step.{step}
+use Rattle.jsh_core.specs.History.{act_bytes, MayDo}
 use Rattle.jsh_shell.specs.Budget.{default_budget}
 use Rattle.jsh_shell.specs.Limited.{HasNoRoomFor, HasRoomOf}
 use Rattle.jsh_shell.specs.Progress.{command_act}
-use Rattle.jsh_shell.specs.Serving.{Fails, HandsIn, IsRunFresh, Shows}
+use Rattle.jsh_shell.specs.Serving.{Fails, HandsIn, Shows}
 use Rattle.jsh_shell.specs.Transcript.{is_turn}
 use Rattle.jsh_shell.proofs.ActLemmas.{by, command-may, command-quiet, command-stays, hands-in, hands-in-limited, hands-in-fails, run-fresh}
 use Rattle.jsh_shell.proofs.ServeLemmas.{part-at-limit}

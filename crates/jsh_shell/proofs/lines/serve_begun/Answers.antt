@@ -1,7 +1,7 @@
 -- The line is what was begun and its end.
-use Rattle.std.proofs.Common.{refl, ◌≡◌, ◌≤◌, ◌+◌, ◌*◌, ◌++◌, arith, ap, sym, ◌∙◌, subst, List, ℕ, length, length-append}
+use Rattle.std.proofs.Common.{refl, arith, ap, ◌∙◌, subst, List, ℕ, length, length-append}
 use Rattle.jsh_lines.specs.Lines.{as_text}
-use Rattle.jsh_cut.specs.Commands.{cut_line, held_text}
+use Rattle.jsh_cut.specs.Commands.{cut_line}
 use Rattle.jsh_shell.specs.Cutting.{ServesCut}
 use Rattle.jsh_shell.specs.Budget.{default_budget}
 use Rattle.jsh_shell.specs.Serving.{ServesPart}

@@ -1,6 +1,6 @@
 -- Command by command.
 use Rattle.std.proofs.Common.{◌≡◌, refl, sym, ◌∙◌, ap, subst}
-use Rattle.jsh_cut.specs.Commands.{Gives, with_command}
+use Rattle.jsh_cut.specs.Commands.{with_command}
 use Rattle.jsh_cut.specs.Cuttings.{coming}
 use Rattle.jsh_shell.specs.declared.halts.Halt.{Halt}
 use Rattle.jsh_shell.specs.Serving.{HasCause}

@@ -1,9 +1,8 @@
 -- A last line is served as a line, and then what is held.
-use Rattle.std.proofs.Common.{◌≡◌, ◌≤◌, ◌+◌, ◌*◌, ◌++◌, [], true, false, arith, ap, sym, ◌∙◌, subst, List, ℕ, length, append-nil}
+use Rattle.std.proofs.Common.{◌≡◌, ◌++◌, true, false, ap, sym, ◌∙◌, subst, List, append-nil}
 use Rattle.std.specs.Prelude.{OnOk, IfErr}
 use Rattle.jsh_lines.specs.Lines.{as_text}
 use Rattle.jsh_cut.specs.declared.command.Command.{Command}
-use Rattle.jsh_cut.specs.declared.held.Held.{Held}
 use Rattle.jsh_cut.specs.Commands.{Gives, cut_end, cut_line}
 use Rattle.jsh_shell.specs.Cutting.{closing}
 use Rattle.jsh_shell.specs.Budget.{default_budget}

@@ -1,8 +1,7 @@
 -- What is held is submitted.
-use Rattle.std.proofs.Common.{◌≡◌, arith, ap, sym, ◌∙◌, subst, List, ℕ}
+use Rattle.std.proofs.Common.{sym, subst}
 use Rattle.std.specs.List.{All}
-use Rattle.jsh_cut.specs.declared.command.Command.{Command}
-use Rattle.jsh_cut.specs.Commands.{Gives, cut_end}
+use Rattle.jsh_cut.specs.Commands.{Gives}
 use Rattle.jsh_shell.specs.Budget.{default_budget}
 use Rattle.jsh_shell.specs.Serving.{IsServable, Serves, ServesPart}
 use Rattle.jsh_shell.proofs.Servable.{end-servable}

@@ -1,7 +1,7 @@
 -- Line by line, and then the rest begins the next one.
-use Rattle.std.proofs.Common.{refl, rules, ◌≡◌, ◌≤◌, ◌<◌, ◌+◌, ◌*◌, ◌++◌, ◌∷◌, [], true, false, arith, sym, ◌∙◌, ap, subst, List, ℕ, length, drop, take, length-append, length-take, length-drop}
+use Rattle.std.proofs.Common.{refl, rules, ◌≡◌, ◌<◌, ◌+◌, ◌++◌, true, false, arith, sym, ◌∙◌, ap, subst, List, ℕ, length, drop, length-append, length-take}
 use Rattle.jsh_lines.specs.Lines.{as_text, has_line_feed, cut}
-use Rattle.jsh_cut.specs.Commands.{cut_line, held_text}
+use Rattle.jsh_cut.specs.Commands.{cut_line}
 use Rattle.jsh_shell.specs.Cutting.{ServesCut}
 use Rattle.jsh_shell.specs.Budget.{default_budget}
 use Rattle.jsh_shell.specs.Serving.{ServesPart}

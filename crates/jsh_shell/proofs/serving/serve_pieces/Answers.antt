@@ -1,8 +1,7 @@
 -- Piece by piece, until there is no more.
-use Rattle.std.proofs.Common.{refl, ◌≡◌, ◌≤◌, ◌<◌, ◌+◌, ◌-◌, ◌*◌, ◌∷◌, [], arith, sym, ◌∙◌, ap, subst, List, ℕ, length, take, Ok, length-take}
+use Rattle.std.proofs.Common.{refl, ◌≡◌, ◌≤◌, ◌<◌, ◌+◌, ◌-◌, arith, sym, ◌∙◌, ap, subst, List, ℕ, length, take, Ok, length-take}
 use Rattle.std.specs.Io.KnownBytes.{prepend_known}
 use Rattle.jsh_io.specs.Count.{Rose}
-use Rattle.jsh_cut.specs.Commands.{held_text}
 use Rattle.jsh_cut.specs.declared.held.Held.TheVariants as held
 use Rattle.jsh_shell.specs.Budget.{default_budget, most_input}
 use Rattle.jsh_shell.specs.Cutting.{ending}
