@@ -4,3 +4,4 @@ pub mod Memory
 pub mod MemoryDesk
 pub mod Named
 pub mod Script
+pub mod Streams

@@ -9,7 +9,7 @@ use std::fs::File;
 use std::io;
 use std::io::{Read, Stdin, Stdout, Write};
 
-/// A source over a reader.
+/// A source over a reader. A read that a signal interrupted is tried again.
 #[derive(Drop)]
 pub struct ReaderSource<R> {
     reader: R,
@@ -41,17 +41,20 @@ impl<R: Read> Source for ReaderSource<R> {
         ensures never_falls { self.old.faults ≤ self.new.faults }
         ensures in_range { self.new.faults < 2 ^ 64 }
     {
-        match self.reader.read(buf) {
-            Ok(n) => Ok(n),
-            Err(_) => {
-                self.faults = self.faults.saturating_add(1);
-                Err(Failed)
+        'tries: for _ in 0..u64::MAX {
+            match self.reader.read(buf) {
+                Ok(n) => return Ok(n),
+                Err(e) if e.kind() == io::ErrorKind::Interrupted => {}
+                Err(_) => break,
             }
         }
+        self.faults = self.faults.saturating_add(1);
+        Err(Failed)
     }
 }
 
-/// A sink over a writer that keeps nothing back, so that what it takes is out at once.
+/// A sink over a writer that keeps nothing back, so that what it takes is out at once. A write that
+/// a signal interrupted is tried again.
 #[derive(Drop)]
 pub struct WriterSink<W> {
     writer: W,
@@ -70,6 +73,8 @@ impl<W: Write> WriterSink<W> {
 impl<W: Write> Sink for WriterSink<W> {
     ghost held = { λ _. None };
 
+    ghost stream = { λ _. None };
+
     ghost faults = { λ sink. sink.faults };
 
     fn write(&mut self, piece: &[u8]) -> Result<usize, Failed>
@@ -85,18 +90,20 @@ impl<W: Write> Sink for WriterSink<W> {
         ensures never_falls { self.old.faults ≤ self.new.faults }
         ensures in_range { self.new.faults < 2 ^ 64 }
     {
-        match self.writer.write(piece) {
-            Ok(n) => {
-                if n == 0 && !piece.is_empty() {
-                    self.faults = self.faults.saturating_add(1);
+        'tries: for _ in 0..u64::MAX {
+            match self.writer.write(piece) {
+                Ok(n) => {
+                    if n == 0 && !piece.is_empty() {
+                        self.faults = self.faults.saturating_add(1);
+                    }
+                    return Ok(n);
                 }
-                Ok(n)
-            }
-            Err(_) => {
-                self.faults = self.faults.saturating_add(1);
-                Err(Failed)
+                Err(e) if e.kind() == io::ErrorKind::Interrupted => {}
+                Err(_) => break,
             }
         }
+        self.faults = self.faults.saturating_add(1);
+        Err(Failed)
     }
 }
 

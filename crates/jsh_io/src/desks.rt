@@ -1,6 +1,8 @@
 // What hands out streams.
 ghost use Rattle.std.specs.Prelude.{◌≡◌, ℕ, ◌<◌, ◌≤◌, ◌^◌, Option, Some, option_map, IfOk, OnOk, OnErr, IfSome, IsSomeAnd};
 ghost use Rattle.jsh_io.specs.Count.{Rose};
+ghost use Rattle.jsh_io.specs.Streams.{IsStreamWhereTold};
+ghost use Rattle.jsh_io.specs.Streams.StreamName.{StandardStream, FileNamed};
 ghost use Rattle.jsh_io.specs.Inputs.{Inputs, without_standard, bytes_of, without_file, IsEmptyWhereTold};
 
 use super::streams::{Failed, Sink, Source};
@@ -29,6 +31,7 @@ pub trait Desk {
         ensures fresh_in { IfOk result (λ streams. Self.In.faults streams.0 ≡ 0) }
         ensures fresh_out { IfOk result (λ streams. Self.Out.faults streams.1 ≡ 0) }
         ensures empty { IfOk result (λ streams. IsEmptyWhereTold (Self.Out.held streams.1)) }
+        ensures stream { IfOk result (λ streams. IsStreamWhereTold (Self.Out.stream streams.1) StandardStream) }
         ensures failed { OnErr result (Rose (input_faults self.old) (input_faults self.new)) }
         ensures never_falls_in { input_faults self.old ≤ input_faults self.new }
         ensures never_falls_out { output_faults self.old ≤ output_faults self.new }
@@ -53,6 +56,7 @@ pub trait Desk {
         ensures kept { inputs self.new ≡ inputs self.old }
         ensures fresh { IfOk result (λ sink. Self.Out.faults sink ≡ 0) }
         ensures empty { IfOk result (λ sink. IsEmptyWhereTold (Self.Out.held sink)) }
+        ensures stream { IfOk result (λ sink. IsStreamWhereTold (Self.Out.stream sink) (FileNamed name.now)) }
         ensures failed { OnErr result (Rose (output_faults self.old) (output_faults self.new)) }
         ensures never_falls_in { input_faults self.old ≤ input_faults self.new }
         ensures never_falls_out { output_faults self.old ≤ output_faults self.new }

@@ -12,6 +12,7 @@ mod named;
 mod openings;
 mod real_desks;
 mod scripts;
+mod stream_labels;
 mod streams;
 mod writing;
 

@@ -6,8 +6,9 @@ use super::desks::Desk;
 use super::memory_sinks::MemorySink;
 use super::memory_sources::MemorySource;
 use super::named::{Named, take_named};
-use super::openings::{take_input, whole_sink};
+use super::openings::{file_label, take_input, whole_sink};
 use super::scripts::Script;
+use super::stream_labels::Label;
 use super::streams::Failed;
 use std::alloc::{AllocError, Global};
 
@@ -34,7 +35,8 @@ pub(crate) struct FreshStreams {
 }
 
 /// A desk in memory, some of whose openings fail. It hands out each input once. A name that it
-/// has no sink for gets one that takes whole pieces and never fails by plan.
+/// has no sink for gets one that takes whole pieces and never fails by plan. A sink tells its name
+/// as long as there was memory for that.
 #[derive(Drop)]
 pub struct MemoryDesk {
     alloc: Global,
@@ -114,8 +116,10 @@ impl MemoryDesk {
 
 impl Desk for MemoryDesk {
     ghost use Rattle.jsh_io.specs.Inputs.{bytes_of, without_file, without_standard};
-    ghost use Rattle.jsh_io.specs.Memory.{source_left};
+    ghost use Rattle.jsh_io.specs.Memory.{source_left, stream_of, IsButLabel};
     ghost use Rattle.jsh_io.specs.MemoryDesk.{inputs_of};
+    ghost use Rattle.jsh_io.specs.Streams.{IsStreamWhereTold};
+    ghost use Rattle.jsh_io.specs.Streams.StreamName.{StandardStream, FileNamed};
     ghost use Rattle.jsh_io.specs.Named.{first_named};
     ghost use Rattle.jsh_io.specs.Script.{Fails, called};
 
@@ -142,6 +146,7 @@ impl Desk for MemoryDesk {
         ensures fresh_in { IfOk result (λ streams. streams.0.faults ≡ 0) }
         ensures fresh_out { IfOk result (λ streams. streams.1.faults ≡ 0) }
         ensures empty { IfOk result (λ streams. streams.1.bytes.items ≡ []) }
+        ensures stream { IfOk result (λ streams. stream_of streams.1.label ≡ Some StandardStream) }
 
         // What is counted.
         ensures counted { self.new.script ≡ called self.old.script }
@@ -155,7 +160,7 @@ impl Desk for MemoryDesk {
     {
         if !self.script.next_fails() {
             if let Some(FreshStreams { source, sink }) = self.standard.take() {
-                return Ok((source.source, sink.sink));
+                return Ok((source.source, sink.sink.labelled(Label::Standard)));
             }
         }
         self.input_faults = self.input_faults.saturating_add(1);
@@ -198,10 +203,11 @@ impl Desk for MemoryDesk {
     fn open_out(&mut self, name: &str) -> Result<MemorySink, Failed>
         ensures planned { IsErr result ↔ Fails self.old.script }
         ensures prepared { IfOk result (λ sink.
-            IfSome (first_named name.now self.old.outputs.items) (λ fresh. sink ≡ fresh.sink)) }
+            IfSome (first_named name.now self.old.outputs.items) (λ fresh. IsButLabel fresh.sink sink)) }
         ensures kept { inputs_of self.new ≡ inputs_of self.old }
         ensures fresh { IfOk result (λ sink. sink.faults ≡ 0) }
         ensures empty { IfOk result (λ sink. sink.bytes.items ≡ []) }
+        ensures stream { IfOk result (λ sink. IsStreamWhereTold (stream_of sink.label) (FileNamed name.now)) }
 
         // What is counted.
         ensures counted { self.new.script ≡ called self.old.script }
@@ -217,9 +223,10 @@ impl Desk for MemoryDesk {
             self.output_faults = self.output_faults.saturating_add(1);
             return Err(Failed);
         }
+        let label = file_label(self.alloc, name);
         match take_named(&mut self.outputs, name) {
-            Some(FreshSink { sink }) => Ok(sink),
-            None => Ok(whole_sink(self.alloc)),
+            Some(FreshSink { sink }) => Ok(sink.labelled(label)),
+            None => Ok(whole_sink(self.alloc).labelled(label)),
         }
     }
 }

@@ -5,6 +5,7 @@ ghost use Rattle.std.specs.Io.KnownBytes.{append_known};
 ghost use Rattle.jsh_io.specs.Count.{one_more};
 
 use super::scripts::Script;
+use super::stream_labels::Label;
 use super::streams::{Failed, Sink};
 
 /// A sink in memory, some of whose writes fail or take nothing. A write takes at most `piece`
@@ -16,11 +17,15 @@ pub struct MemorySink {
     idle: Vec<u64>,
     script: Script,
     faults: u64,
+    label: Label,
     ghost moves: { 0 < piece },
     ghost fits: { faults < 2 ^ 64 },
 }
 
 impl MemorySink {
+    ghost use Rattle.jsh_io.specs.Memory.{IsButLabel};
+    ghost use Rattle.jsh_io.specs.declared.stream_labels.Label.TheVariants as label;
+
     /// The sink goes on from the bytes that are there, so room for more can be made before. The
     /// writes with the numbers of `failing` fail and those of `idle` take nothing, the first write
     /// being number 1.
@@ -31,6 +36,7 @@ impl MemorySink {
         ensures idle { result.idle ≡ idle }
         ensures script { result.script ≡ record { failing = failing; calls = 0 } }
         ensures faults { result.faults ≡ 0 }
+        ensures label { result.label ≡ label.Unknown }
     {
         MemorySink {
             bytes,
@@ -38,7 +44,18 @@ impl MemorySink {
             idle,
             script: Script::new(failing),
             faults: 0,
+            label: Label::Unknown,
         }
+    }
+
+    /// The same sink, as this stream of a desk.
+    pub(crate) fn labelled(self, label: Label) -> MemorySink
+        ensures label { result.label ≡ label }
+        ensures same { IsButLabel self result }
+    {
+        let mut sink = self;
+        sink.label = label;
+        sink
     }
 
     /// The bytes that the sink holds.
@@ -58,9 +75,11 @@ impl MemorySink {
 
 impl Sink for MemorySink {
     ghost use Rattle.jsh_io.specs.Script.{Fails, called};
-    ghost use Rattle.jsh_io.specs.Memory.{IsIdle, HasNoRoom};
+    ghost use Rattle.jsh_io.specs.Memory.{IsIdle, HasNoRoom, stream_of};
 
     ghost held = { λ sink. Some sink.bytes.items };
+
+    ghost stream = { λ sink. stream_of sink.label };
 
     ghost faults = { λ sink. sink.faults };
 
@@ -82,7 +101,7 @@ impl Sink for MemorySink {
         ensures no_fault { IfOk result (λ n. 0 < n → self.new.faults ≡ self.old.faults) }
         ensures never_falls { self.old.faults ≤ self.new.faults }
         ensures in_range { self.new.faults < 2 ^ 64 }
-        ensures same { (self.new.piece ≡ self.old.piece) × (self.new.idle ≡ self.old.idle) }
+        ensures same { (self.new.piece ≡ self.old.piece) × (self.new.idle ≡ self.old.idle) × (self.new.label ≡ self.old.label) }
     {
         if self.script.next_fails() {
             self.faults = self.faults.saturating_add(1);
@@ -145,6 +164,8 @@ impl Sink for InfallibleSink {
     ghost use Rattle.jsh_io.specs.Memory.{written};
 
     ghost held = { λ _. None };
+
+    ghost stream = { λ _. None };
 
     ghost faults = { λ _. 0 };
 

@@ -1,7 +1,8 @@
 // Where bytes come from, and where they go.
-ghost use Rattle.std.specs.Prelude.{◌≡◌, ℕ, ◌<◌, ◌≤◌, ◌^◌, ◌↔◌, List, [], Option, length, take, drop, IfOk, OnErr, IfSome};
+ghost use Rattle.std.specs.Prelude.{◌≡◌, ℕ, ◌<◌, ◌≤◌, ◌^◌, ◌↔◌, List, [], Option, length, take, drop, IfOk, OnOk, OnErr, IfSome};
 ghost use Rattle.std.specs.Io.KnownBytes.{append_known, prepend_known};
 ghost use Rattle.jsh_io.specs.Count.{Rose};
+ghost use Rattle.jsh_io.specs.Streams.{StreamName};
 
 /// The outside failed. The count of the object that was called says so too.
 #[derive(Clone, Copy, Debug, PartialEq, Eq)]
@@ -19,6 +20,7 @@ pub trait Source {
     fn read(&mut self, buf: &mut [u8]) -> Result<usize, Failed>
         ensures bound { IfOk result (λ n. n ≤ length buf.new) }
         ensures failed { OnErr result (Rose (faults self.old) (faults self.new)) }
+        ensures no_fault { OnOk result (faults self.new ≡ faults self.old) }
         ensures never_falls { faults self.old ≤ faults self.new }
         ensures in_range { faults self.new < 2 ^ 64 }
 
@@ -37,6 +39,9 @@ pub trait Sink {
     // The bytes that the sink holds, or `None` where it does not tell them.
     ghost held: { Self → Option (List ℕ) };
 
+    // Which stream of a desk the sink is, or `None` where it does not tell that.
+    ghost stream: { Self → Option StreamName };
+
     // How many faults there were.
     ghost faults: { Self → ℕ };
 
@@ -47,8 +52,12 @@ pub trait Sink {
 
         // To take nothing of a piece that has bytes is a fault.
         ensures nothing { IfOk result (λ n. n ≡ 0 → 0 < length piece.now → Rose (faults self.old) (faults self.new)) }
+        ensures no_fault { IfOk result (λ n. 0 < n → faults self.new ≡ faults self.old) }
         ensures never_falls { faults self.old ≤ faults self.new }
         ensures in_range { faults self.new < 2 ^ 64 }
+
+        // A sink stays the stream that it is.
+        ensures stream { stream self.new ≡ stream self.old }
 
         // The bytes held are those from before and then those taken. Whether they are told stays.
         ensures bytes { IfOk result (λ n. held self.new ≡ append_known (held self.old) (take n piece.now)) }

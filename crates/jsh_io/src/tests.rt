@@ -3,8 +3,9 @@ ghost use Rattle.std.specs.Prelude.{◌≡◌, ◌<◌, [], IfOk};
 
 use super::*;
 use std::alloc::{AllocError, Global};
-use std::fs;
+use std::io::{Read, Write};
 use std::test::Fail;
+use std::{fs, io};
 
 // A list of one number, or of none for 0.
 fn numbers(alloc: Global, number: u64) -> Result<Vec<u64>, AllocError> {
@@ -197,6 +198,53 @@ fn counts_what_a_writer_refuses(rt: HostRuntime) -> Result<(), Fail> {
     assert_eq!(rt; write_whole(&mut sink, &all), Err(Failed));
     assert!(rt; ended);
     Ok(())
+}
+
+// A stream whose calls are interrupted but for each third, and fail from the seventh on.
+#[derive(Drop)]
+struct Interrupted {
+    calls: u32,
+}
+
+impl Interrupted {
+    fn call(&mut self) -> io::Result<usize>
+        ensures { IfOk result (λ n. n ≡ 0) }
+    {
+        self.calls = self.calls.saturating_add(1);
+        if self.calls >= 7 {
+            return Err(io::Error::from(io::ErrorKind::Other));
+        }
+        if self.calls % 3 > 0 {
+            return Err(io::Error::from(io::ErrorKind::Interrupted));
+        }
+        Ok(0)
+    }
+}
+
+impl Read for Interrupted {
+    fn read(&mut self, _buf: &mut [u8]) -> io::Result<usize> {
+        self.call()
+    }
+}
+
+impl Write for Interrupted {
+    fn write(&mut self, _buf: &[u8]) -> io::Result<usize> {
+        self.call()
+    }
+
+    fn flush(&mut self) -> io::Result<()> {
+        Ok(())
+    }
+}
+
+#[test]
+fn tries_an_interrupted_call_again(rt: HostRuntime) {
+    let mut source = ReaderSource::new(Interrupted { calls: 0 });
+    let mut sink = WriterSink::new(Interrupted { calls: 0 });
+    for answer in [Ok(0), Ok(0), Err(Failed)] {
+        assert_eq!(rt; source.read(&mut []), answer);
+        assert_eq!(rt; sink.write(&[]), answer);
+    }
 }
 
 const NAME: &str = "jsh_io.tmp";

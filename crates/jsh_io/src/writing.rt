@@ -9,8 +9,10 @@ use super::streams::{Failed, Sink};
 pub fn write_whole<O: Sink>(sink: &mut O, piece: &[u8]) -> Result<(), Failed>
     ensures whole { OnOk result (O.held sink.new ≡ append_known (O.held sink.old) piece.now) }
     ensures part { OnErr result (TakesPart (O.held sink.old) (O.held sink.new) piece.now) }
+    ensures no_fault { OnOk result (O.faults sink.new ≡ O.faults sink.old) }
     ensures failed { OnErr result (Rose (O.faults sink.old) (O.faults sink.new)) }
     ensures never_falls { O.faults sink.old ≤ O.faults sink.new }
+    ensures stream { O.stream sink.new ≡ O.stream sink.old }
 {
     let mut done = 0;
     while done < piece.len() {

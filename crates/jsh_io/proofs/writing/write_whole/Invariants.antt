@@ -6,7 +6,8 @@ abbrev pub invariant-loop-done : goal.invariant-loop-done
 invariant-loop-done g l = record {
   within : l.done ≤ length l.piece;
   bytes : g.O.Sink.held l.sink ≡ append_known (g.O.Sink.held l.initial.sink) (take l.done l.piece);
-  never_falls : g.O.Sink.faults l.initial.sink ≤ g.O.Sink.faults l.sink;
+  no_fault : g.O.Sink.faults l.sink ≡ g.O.Sink.faults l.initial.sink;
+  stream : g.O.Sink.stream l.sink ≡ g.O.Sink.stream l.initial.sink;
 }
 
 abbrev pub decreases-loop-done : goal.decreases-loop-done
