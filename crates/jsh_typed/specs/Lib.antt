@@ -1,0 +1,4 @@
+pub mod Conversions
+pub mod Hierarchy
+pub mod Operations
+pub mod Types
