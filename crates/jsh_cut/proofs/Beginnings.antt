@@ -1,22 +1,18 @@
 -- How a rest begins, and what is left behind its first snippet.
 use Rattle.std.proofs.Common.{◌≡◌, ℕ, ◌+◌, ◌-◌, ◌<◌, ◌≤◌, List, [], ◌∷◌, ◌++◌, length, take, drop, Option, refl, sym, ap, subst, ◌∙◌, arith, append_assoc}
-use Rattle.std.specs.Prelude.{slice_range}
 use Rattle.std.specs.Str.{IsUtf8, IsCharBoundary}
-use Rattle.std.proofs.lemmas.List.{drop-drop, take-append-drop}
+use Rattle.std.proofs.lemmas.List.{take-append-drop}
 use Rattle.jsh_tree.specs.declared.token.Token.{Token}
 use Rattle.jsh_lex.specs.declared.lexeme.LexFault.{LexFault}
 use Rattle.jsh_lex.specs.Lexis.{tokens}
 use Rattle.jsh_complete.specs.declared.completion.Completeness.TheVariants as completeness
 use Rattle.jsh_complete.specs.declared.completion.Completion.{Completion}
 use Rattle.jsh_complete.specs.Completeness.{IsCompletion, end_of}
-use Rattle.jsh_cut.specs.declared.command.Command.{Command}
-use Rattle.jsh_cut.specs.declared.command.Command.TheVariants as command
-use Rattle.jsh_cut.specs.Commands.{completion, fault_of, begin_of}
+use Rattle.jsh_cut.specs.Commands.{completion, fault_of}
 use Rattle.jsh_cut.specs.Rests.{placed, IsRest}
 use Rattle.jsh_cut.proofs.Completions.{is_completion, complete_ends}
 use Rattle.jsh_cut.proofs.Moved.{own_completion}
 use Rattle.jsh_cut.proofs.Rests.{behind_some}
-use Rattle.jsh_cut.proofs.Cuttings.{Leads, leads_on}
 
 -- it tells the kind of the rest, and where its first snippet ends, in places of the whole text
 pub record Tells (base : ℕ) (rest : List ℕ) (c : Completion) : Type 0 where
@@ -41,19 +37,6 @@ tells base rest ts fault c u is said =
       between = λ complete. subst (λ (d : Completion). IsCharBoundary rest d.end) same (ends complete).0;
       some = λ complete. subst (λ (d : Completion). 0 < d.end) same (ends complete).1;
     }
-
--- The first snippet of a rest is submitted, and what stands behind it is left.
-pub leads_behind : (made given : List Command) (text : List ℕ) (base end : ℕ) → Leads made (drop base text) given text →
-    (completion (drop base text)).kind ≡ completeness.Complete → end ≡ base + (completion (drop base text)).end → 0 < (completion (drop base text)).end →
-    (completion (drop base text)).end ≤ length (drop base text) →
-    Leads (made ++ command.Eval (slice_range (drop base text) (begin_of (drop base text)) (end - base)) ∷ []) (drop end text) given text
-leads_behind made given text base end leads kind ends some within =
-    let rest = drop base text in
-    let own : ℕ = (completion rest).end in
-    let back : own ≡ end - base = omega (arith, ends) in
-    let drops : drop end text ≡ drop own rest = ap (λ n. drop n text) ends ∙ sym (drop-drop own base text) in
-    subst (λ (n : ℕ). Leads (made ++ command.Eval (slice_range rest (begin_of rest) n) ∷ []) (drop end text) given text) back
-    (leads_on made given rest (drop end text) text (completion rest) leads refl kind drops some within)
 
 -- so many tokens more are behind
 pub behind_more : (every before ts : List Token) (n : ℕ) → every ≡ before ++ ts → (more : List Token) × (every ≡ more ++ drop n ts)

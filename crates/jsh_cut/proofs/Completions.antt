@@ -13,16 +13,14 @@ use Rattle.jsh_recognizer.proofs.Stopped.{whole_may_stop}
 use Rattle.jsh_complete.specs.declared.completion.Completeness.TheVariants as completeness
 use Rattle.jsh_complete.specs.declared.completion.Completion.{Completion}
 use Rattle.jsh_complete.specs.Completeness.{Stop, Counts, all, some, whole, begins_whole, IsSnippet, IsEndOfLongest, IsCompletion, by_rule, end_of}
-use Rattle.jsh_complete.proofs.Total.{completes}
-use Rattle.jsh_complete.proofs.Unique.{one}
+use Rattle.jsh_complete.proofs.Total.{completes, is_completion as is_completion_by}
 use Rattle.jsh_cut.specs.Commands.{completion, fault_of}
 use Rattle.jsh_cut.proofs.Ends.{front_behind, end_between}
 
 -- A text has the completion that is said of it.
 pub is_completion : (text : List ℕ) (c : Completion) → IsCompletion text (tokens text).tokens (fault_of (tokens text)) c → c ≡ completion text
 unfolding completion
-is_completion text c is =
-    one text (tokens text).tokens (fault_of (tokens text)) c _ is (completes text (tokens text).tokens (fault_of (tokens text))).1
+is_completion text c is = is_completion_by text (tokens text).tokens (fault_of (tokens text)) c is
 
 pub no_empty_snippet : IsSnippet [] → ⊥
 no_empty_snippet is = let stops = whole_may_stop start.Snippet 256 [] (first start.Snippet) at_end is in absurd cc
@@ -58,4 +56,4 @@ complete_ends text c u is = first_ends text (tokens text).tokens (fault_of (toke
 pub first_end : (text : List ℕ) → IsUtf8 text → (completion text).kind ≡ completeness.Complete → IsCharBoundary text (completion text).end × (0 < (completion text).end)
 unfolding completion
 first_end text u is =
-    complete_ends text (completes text (tokens text).tokens (fault_of (tokens text))).0 u (completes text (tokens text).tokens (fault_of (tokens text))).1 is
+    complete_ends text (completion text) u (completes text (tokens text).tokens (fault_of (tokens text))) is

@@ -10,64 +10,9 @@ use Rattle.jsh_cut.specs.declared.command.Command.{Command}
 use Rattle.jsh_cut.specs.declared.command.Command.TheVariants as command
 use Rattle.jsh_cut.specs.declared.held.Held.{Held}
 use Rattle.jsh_cut.specs.declared.held.Held.TheVariants as held
-use Rattle.jsh_cut.specs.declared.held.Gives.{Gives}
-use Rattle.jsh_cut.specs.Commands.{completion, begin_of, first_source, source_of, most_source, submits, waits, by_kind, analyzed, by_text, with_command, with_commands, held_text}
+use Rattle.jsh_tree.specs.Text.{most_source}
+use Rattle.jsh_cut.specs.Commands.{Gives, completion, begin_of, first_source, source_of, submits, waits, by_kind, analyzed, by_text, with_command, with_commands, held_text}
 use Rattle.jsh_cut.proofs.Completions.{first_end}
-
--- What was made so far, with what the rest gives, is what was given first with what the text gives.
-pub record Leads (made : List Command) (rest : List ℕ) (given : List Command) (text : List ℕ) : Type 0 where
-  pub most : ℕ
-  pub room : length rest < most
-  pub same : with_commands made (analyzed most rest) ≡ with_commands given (by_text text)
-
-pub leads_first : (given : List Command) (text : List ℕ) → Leads given text given text
-leads_first given text = record { most = suc (length text); room = omega arith; same = refl }
-
--- what a text gives whose kind is known
-by_one : (most : ℕ) (rest : List ℕ) (kind : Completeness) → kind ≡ (completion rest).kind → analyzed (suc most) rest ≡ by_kind rest (λ r. analyzed most r) kind
-by_one most rest kind e = ap (by_kind rest (λ r. analyzed most r)) (sym e)
-
-more_commands : (made : List Command) (e : Command) (gives : Gives) → with_commands (made ++ e ∷ []) gives ≡ with_commands made (with_command e gives)
-more_commands made e gives =
-    ap (λ (cs : List Command). let g : Gives = record { commands = cs; held = gives.held; exits = gives.exits } in g) (append_assoc made (e ∷ []) gives.commands)
-
-leads_on_at : (most : ℕ) (made given : List Command) (rest behind text : List ℕ) (c : Completion) → length rest < most →
-    with_commands made (analyzed most rest) ≡ with_commands given (by_text text) → c ≡ completion rest → c.kind ≡ completeness.Complete →
-    behind ≡ drop c.end rest → 0 < c.end → c.end ≤ length rest →
-    Leads (made ++ command.Eval (slice_range rest (begin_of rest) c.end) ∷ []) behind given text
-leads_on_at zero made given rest behind text c room same is kind drops some within = absurd (omega arith)
-leads_on_at (suc most) made given rest behind text c room same is kind drops some within =
-    let first : ℕ → Command = λ end. command.Eval (slice_range rest (begin_of rest) end) in
-    let end : c.end ≡ (completion rest).end = ap (λ (d : Completion). d.end) is in
-    let left : ℕ → Gives = λ end. analyzed most (drop end rest) in
-    record {
-      most = most;
-      room = omega (arith, ap length drops, length-drop c.end rest);
-      same =
-          ap (λ b. with_commands (made ++ first c.end ∷ []) (analyzed most b)) drops
-          ∙ more_commands made (first c.end) (left c.end)
-          ∙ ap (λ n. with_commands made (with_command (first n) (left n))) end
-          ∙ ap (with_commands made) (sym (by_one most rest completeness.Complete (sym kind ∙ ap (λ (d : Completion). d.kind) is)))
-          ∙ same;
-    }
-
--- Where the rest begins with a whole snippet, that one is submitted, and what stands behind it is left.
-pub leads_on : (made given : List Command) (rest behind text : List ℕ) (c : Completion) → Leads made rest given text → c ≡ completion rest → c.kind ≡ completeness.Complete →
-    behind ≡ drop c.end rest → 0 < c.end → c.end ≤ length rest →
-    Leads (made ++ command.Eval (slice_range rest (begin_of rest) c.end) ∷ []) behind given text
-leads_on made given rest behind text c leads = leads_on_at leads.most made given rest behind text c leads.room leads.same
-
-leads_end_at : (most : ℕ) (made given : List Command) (rest text : List ℕ) (kind : Completeness) (gives : Gives) → length rest < most →
-    with_commands made (analyzed most rest) ≡ with_commands given (by_text text) → kind ≡ (completion rest).kind →
-    ((onward : List ℕ → Gives) → gives ≡ with_commands made (by_kind rest onward kind)) → gives ≡ with_commands given (by_text text)
-leads_end_at zero made given rest text kind gives room same is settled = absurd (omega arith)
-leads_end_at (suc most) made given rest text kind gives room same is settled =
-    settled (λ r. analyzed most r) ∙ ap (with_commands made) (sym (by_one most rest kind is)) ∙ same
-
--- Any other rest settles it.
-pub leads_end : (made given : List Command) (rest text : List ℕ) (kind : Completeness) (gives : Gives) → Leads made rest given text → kind ≡ (completion rest).kind →
-    ((onward : List ℕ → Gives) → gives ≡ with_commands made (by_kind rest onward kind)) → gives ≡ with_commands given (by_text text)
-leads_end made given rest text kind gives leads = leads_end_at leads.most made given rest text kind gives leads.room leads.same
 
 -- ---- as many rounds as a text has bytes are enough
 
@@ -94,18 +39,21 @@ enough (suc most) (suc other) text u room more =
     enough most other (drop end text) (IsUtf8-drop text end u ends.0) (omega arith) (omega arith))
 
 -- A whole snippet that a text begins with is submitted, and what stands behind it gives what it gives alone.
-pub snippet_and_rest : (given : List Command) (text behind : List ℕ) (c : Completion) (gives : Gives) → IsUtf8 behind → c ≡ completion text →
-    c.kind ≡ completeness.Complete → behind ≡ drop c.end text → 0 < c.end → c.end ≤ length text →
-    gives ≡ with_commands (given ++ command.Eval (slice_range text (begin_of text) c.end) ∷ []) (by_text behind) → gives ≡ with_commands given (by_text text)
-snippet_and_rest given text behind c gives u is kind drops some within told =
-    let made = given ++ command.Eval (slice_range text (begin_of text) c.end) ∷ [] in
-    let leads = leads_on given given text behind text c (leads_first given text) is kind drops some within in
-    told ∙ ap (with_commands made) (enough (suc (length behind)) leads.most behind u (omega arith) leads.room) ∙ leads.same
+pub by_complete : (text : List ℕ) → IsUtf8 text → (completion text).kind ≡ completeness.Complete →
+    with_command (command.Eval (first_source text)) (by_text (drop (completion text).end text)) ≡ by_text text
+by_complete text u is =
+    let end = (completion text).end in
+    let ends = first_end text u is in
+    let within : end ≤ length text = ends.0.0 in
+    let some : 0 < end = ends.1 in
+    let shorter : length (drop end text) < length text = omega (arith, length-drop end text) in
+    let same = enough (suc (length (drop end text))) (length text) (drop end text) (IsUtf8-drop text end u ends.0) (omega arith) shorter in
+    ap (with_command (command.Eval (first_source text))) same ∙ ap (by_kind text (λ r. analyzed (length text) r)) (sym is)
 
 -- any other text gives what its kind says
-pub by_its_kind : (given : List Command) (text : List ℕ) (kind : Completeness) (gives : Gives) → kind ≡ (completion text).kind →
-    ((onward : List ℕ → Gives) → gives ≡ with_commands given (by_kind text onward kind)) → gives ≡ with_commands given (by_text text)
-by_its_kind given text kind gives is told = leads_end given given text text kind gives (leads_first given text) is told
+pub by_its_kind : (text : List ℕ) (kind : Completeness) (gives : Gives) → kind ≡ (completion text).kind →
+    ((onward : List ℕ → Gives) → gives ≡ by_kind text onward kind) → gives ≡ by_text text
+by_its_kind text kind gives is told = told (λ r. analyzed (length text) r) ∙ ap (by_kind text (λ r. analyzed (length text) r)) is
 
 -- ---- texts that wait
 

@@ -7,7 +7,10 @@ pub mod Placed
 pub mod Slashes
 pub mod Cuttings
 pub mod Beginnings
+pub mod Remainders
+pub mod Blanks
 pub mod Lines
+pub mod Exits
 pub mod Outer
 pub mod Faults
 pub mod Onwards

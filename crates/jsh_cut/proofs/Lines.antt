@@ -1,38 +1,41 @@
 -- What one line more gives, case by case.
 use Rattle.std.proofs.Common.{◌≡◌, ℕ, suc, ◌+◌, ◌≤◌, List, [], ◌∷◌, ◌++◌, length, Bool, true, false, refl, sym, subst, arith, length-append}
-use Rattle.std.specs.Prelude.{◌||◌, if◌then◌else◌, Result, IfOk}
-use Rattle.std.proofs.lemmas.Result.{IfOk-weaker}
+use Rattle.std.specs.Prelude.{◌||◌, if◌then◌else◌}
 use Rattle.jsh_cut.specs.declared.command.Command.TheVariants as command
 use Rattle.jsh_cut.specs.declared.held.Held.{Held}
 use Rattle.jsh_cut.specs.declared.held.Held.TheVariants as held
-use Rattle.jsh_cut.specs.declared.held.Gives.{Gives}
-use Rattle.jsh_cut.specs.Commands.{source_of, by_text, with_commands, held_text, is_command_line, is_slash_line, ends_before, text_before, is_exit, trimmed, by_line, by_command, cut_line}
+use Rattle.jsh_cut.specs.Commands.{Gives, completion, nothing_more, act_of, source_of, by_text, with_command, with_commands, held_text, is_command_line, is_slash_line, ends_before, text_before, is_exit, trimmed, by_line, by_command, cut_line}
 use Rattle.jsh_lines.specs.Lines.{is_blank}
-use Rattle.jsh_cut.proofs.Cuttings.{held_analyzed}
-
--- Nothing is held.
-pub line_first : (line : List ℕ) → with_commands [] (by_line line) ≡ cut_line held.Nothing line
-unfolding cut_line
-line_first line = refl
-
--- What is held ends before the line.
-pub line_ends : (text line : List ℕ) → ends_before line ≡ true → with_commands (command.Eval (source_of text) ∷ []) (by_line line) ≡ cut_line (held.MayEnd text) line
-unfolding cut_line
-line_ends text line ends = rw ends
+use Rattle.jsh_complete.specs.declared.completion.Completeness.TheVariants as completeness
+use Rattle.jsh_cut.proofs.Blanks.{blank_empty, blank_more}
+use Rattle.jsh_cut.proofs.Cuttings.{held_analyzed, by_its_kind}
 
 no_slash : (slash blank : Bool) → slash || blank ≡ false → slash ≡ false
 no_slash false blank e = refl
 no_slash true blank e = absurd cc
 
+-- Nothing is held.
+pub line_first : (line : List ℕ) → by_line line ≡ cut_line held.Nothing line
+unfolding cut_line
+line_first line = refl
+
+pub line_text : (line : List ℕ) → ends_before line ≡ false → by_text (line ++ 10 ∷ []) ≡ by_line line
+line_text line goes_on = let text_line : is_slash_line line ≡ false = no_slash (is_slash_line line) (is_blank line) goes_on in rw text_line
+
+-- What is held ends before the line.
+pub line_ends : (text line : List ℕ) → ends_before line ≡ true → with_command (command.Eval (source_of text)) (by_line line) ≡ cut_line (held.MayEnd text) line
+unfolding cut_line
+line_ends text line ends = rw ends
+
 -- What may end goes on.
-pub line_more : (text line : List ℕ) → ends_before line ≡ false → with_commands [] (by_text (text ++ (line ++ 10 ∷ []))) ≡ cut_line (held.MayEnd text) line
+pub line_more : (text line : List ℕ) → ends_before line ≡ false → by_text (text ++ (line ++ 10 ∷ [])) ≡ cut_line (held.MayEnd text) line
 unfolding cut_line
 line_more text line goes_on =
     let text_line : is_slash_line line ≡ false = no_slash (is_slash_line line) (is_blank line) goes_on in
     rw (goes_on, text_line)
 
 -- What must go on does.
-pub line_on : (text line : List ℕ) → with_commands [] (by_text (text ++ (line ++ 10 ∷ []))) ≡ cut_line (held.MustGoOn text) line
+pub line_on : (text line : List ℕ) → by_text (text ++ (line ++ 10 ∷ [])) ≡ cut_line (held.MustGoOn text) line
 unfolding cut_line
 line_on text line = refl
 
@@ -45,7 +48,7 @@ held_if false x y n p q = q
 held_command : (line : List ℕ) (n : ℕ) → length (held_text (by_command line).held) ≤ n
 held_command line n =
     held_if (is_exit (trimmed line)) (record { commands = []; held = held.Nothing; exits = true })
-    (record { commands = command.Invalid (trimmed line) ∷ []; held = held.Nothing; exits = false }) n (omega arith) (omega arith)
+    (record { commands = command.Slash (act_of (trimmed line)) ∷ []; held = held.Nothing; exits = false }) n (omega arith) (omega arith)
 
 if_shorter : (b : Bool) (text : List ℕ) → length (if b then [] else text) ≤ length text
 if_shorter true text = omega arith
@@ -64,8 +67,15 @@ held_behind before line =
     held_if (is_command_line before line) (by_command line) (by_text joined) _ (held_command line _)
     (omega (arith, held_analyzed (suc (length joined)) joined, before_shorter before line, length-append (text_before before line) (line ++ 10 ∷ []), length-append line (10 ∷ [])))
 
-pub few_held : {E : Type 0} (result : Result Gives E) (before : Held) (line : List ℕ) → IfOk result (λ gives. gives ≡ cut_line before line) →
-    IfOk result (λ gives. length (held_text gives.held) ≤ length (held_text before) + length line + 1)
-few_held result before line =
-    IfOk-weaker result (λ gives. gives ≡ cut_line before line) (λ gives. length (held_text gives.held) ≤ length (held_text before) + length line + 1)
-    (λ gives is. subst (λ (g : Gives). length (held_text g.held) ≤ length (held_text before) + length line + 1) (sym is) (held_behind before line))
+-- ---- a line of white space
+
+other_way : (slash blank : Bool) → slash || blank ≡ true → slash ≡ false → blank ≡ true
+other_way false blank e f = e
+other_way true blank e f = absurd cc
+
+-- It gives nothing.
+pub line_blank : (line : List ℕ) → ends_before line ≡ true → is_slash_line line ≡ false → nothing_more ≡ by_line line
+line_blank line ends text_line =
+    let blank : is_blank line ≡ true = other_way (is_slash_line line) (is_blank line) ends text_line in
+    let empty : (completion (line ++ 10 ∷ [])).kind ≡ completeness.Empty = blank_empty (line ++ 10 ∷ []) (blank_more line blank) in
+    rw text_line (by_its_kind (line ++ 10 ∷ []) completeness.Empty nothing_more (sym empty) (λ onward. refl))

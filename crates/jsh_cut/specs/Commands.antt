@@ -3,6 +3,7 @@ use Rattle.std.specs.Prelude.{ℕ, zero, suc, ◌-◌, Bool, true, false, not, �
 use Rattle.std.specs.Char.{is_ascii_alphabetic}
 use Rattle.std.specs.Str.{bytes_eq}
 use Rattle.std.specs.Option.{option_map}
+use Rattle.std.specs.List.{list_any, filter}
 use Rattle.jsh_tree.specs.declared.token.Token.{Token}
 use Rattle.jsh_lex.specs.declared.lexeme.LexFault.{LexFault}
 use Rattle.jsh_lex.specs.Chars.{drop_while}
@@ -11,14 +12,16 @@ use Rattle.jsh_complete.specs.Completeness.{end_of as last_end}
 use Rattle.jsh_complete.specs.declared.completion.Completeness.{Completeness}
 use Rattle.jsh_complete.specs.declared.completion.Completeness.TheVariants as completeness
 use Rattle.jsh_complete.specs.declared.completion.Completion.{Completion}
-use Rattle.jsh_complete.proofs.Total.{completes}
-use Rattle.jsh_tree.specs.Text.{is_white}
+use Rattle.jsh_complete.specs.Completing.{completion as completion_by}
+use Rattle.jsh_tree.specs.Text.{is_white, most_source}
 use Rattle.jsh_lines.specs.Lines.{is_blank, as_text, input_lines}
+use Rattle.jsh_snippet.specs.declared.acts.Act.{Act}
+use Rattle.jsh_snippet.specs.declared.acts.Act.TheVariants as act
+use Rattle.jsh_snippet.specs.declared.acts.Question.TheVariants as question
 use Rattle.jsh_cut.specs.declared.command.Command.{Command}
 use Rattle.jsh_cut.specs.declared.command.Command.TheVariants as command
 use Rattle.jsh_cut.specs.declared.held.Held.{Held}
 use Rattle.jsh_cut.specs.declared.held.Held.TheVariants as held
-use Rattle.jsh_cut.specs.declared.held.Gives.{Gives}
 
 -- ---- lines that are commands
 
@@ -35,13 +38,17 @@ begins_command _ = false
 abbrev pub is_slash_line : List ℕ → Bool
 is_slash_line line = begins_command (drop_while is_space line)
 
--- without spaces and tabs at both ends, and without the carriage return of a line that ends in both
+-- without spaces and tabs at its start, and without spaces, tabs and carriage returns at its end
 abbrev pub trimmed : List ℕ → List ℕ
 trimmed line = reverse (drop_while (λ c. is_space c || c == 13) (reverse (drop_while is_space line)))
 
--- the line without its blanks is this command
+-- this line, which comes without its blanks, ends the input
 abbrev pub is_exit : List ℕ → Bool
 is_exit line = bytes_eq line (codes "/exit")
+
+-- the act of any other line that is a command, without its blanks: none is known yet
+abbrev pub act_of : List ℕ → Act
+act_of line = act.Ask (question.Invalid line)
 
 -- ---- texts that are held
 
@@ -57,7 +64,7 @@ fault_of lexed = option_map (λ f. f.0) lexed.fault
 
 -- whether the text is whole, and where its first snippet ends
 unfoldable pub completion : List ℕ → Completion
-completion text = (completes text (tokens text).tokens (fault_of (tokens text))).0
+completion text = completion_by text (tokens text).tokens (fault_of (tokens text))
 
 -- where the source of a text begins: with its first token, or where it has none with its first character that isn't white
 abbrev pub begin_of : List ℕ → ℕ
@@ -79,9 +86,11 @@ end_of text = by (tokens text).fault
 unfoldable pub source_of : List ℕ → List ℕ
 source_of text = slice_range text (begin_of text) (end_of text)
 
--- the bytes that a source may have
-abbrev pub most_source : ℕ
-most_source = 65536
+-- what lines give: commands, the text that is held behind them, and whether a line ends the input there
+pub record Gives : Type 0 where
+  pub commands : List Command
+  pub held : Held
+  pub exits : Bool
 
 -- no command, and nothing held
 abbrev pub nothing_more : Gives
@@ -145,11 +154,11 @@ text_before (held.MustGoOn text) line = text
 abbrev pub with_commands : List Command → Gives → Gives
 with_commands cs gives = record gives { commands = cs ++ gives.commands }
 
--- a line that is a command: `/exit`, and all others, which the engine has no answer for yet
+-- a line that is a command ends the input, or is one act
 abbrev pub by_command : List ℕ → Gives
 by_command line =
     if is_exit (trimmed line) then record { commands = []; held = held.Nothing; exits = true }
-    else record { commands = command.Invalid (trimmed line) ∷ []; held = held.Nothing; exits = false }
+    else record { commands = command.Slash (act_of (trimmed line)) ∷ []; held = held.Nothing; exits = false }
 
 -- the text with the line behind it, which ends with its line feed
 abbrev pub by_text : List ℕ → Gives
@@ -186,9 +195,9 @@ cut_lines before (line ∷ lines) = onward (cut_line before line) (λ behind. cu
 abbrev pub cut_input : List ℕ → Bool → Gives
 cut_input bytes ended = cut_lines held.Nothing (map as_text (input_lines bytes ended))
 
--- The commands of an input as far as it has come. What is held is submitted once the input has ended.
-abbrev pub commands : List ℕ → Bool → List Command
-commands bytes ended = by (cut_input bytes ended)
+-- The commands of an input as far as it has come, before the exit. What is held is submitted once the input has ended.
+abbrev pub before_exit : List ℕ → Bool → List Command
+before_exit bytes ended = by (cut_input bytes ended)
   where
     by : Gives → List Command
     by gives = gives.commands ++ (if ended && not gives.exits then cut_end gives.held else [])
@@ -196,3 +205,19 @@ commands bytes ended = by (cut_input bytes ended)
 -- the input ends, or a line exits before it does
 abbrev pub exits : List ℕ → Bool → Bool
 exits bytes ended = ended || (cut_input bytes false).exits
+
+-- the commands of an input as far as it has come: the last one is the exit, once it has ended or a line exits
+abbrev pub commands : List ℕ → Bool → List Command
+commands bytes ended = before_exit bytes ended ++ (if exits bytes ended then command.Exit ∷ [] else [])
+
+abbrev pub is_the_exit : Command → Bool
+is_the_exit command.Exit = true
+is_the_exit _ = false
+
+-- the exit is among the commands
+abbrev pub has_exit : List Command → Bool
+has_exit cs = list_any is_the_exit cs
+
+-- the commands without the exit
+abbrev pub without_exit : List Command → List Command
+without_exit cs = filter (λ c. not (is_the_exit c)) cs

@@ -47,6 +47,7 @@ EachFits by (t ∷ ts) = (by + t.span.from < 2 ^ 32) × (by + t.span.to < 2 ^ 32
 -- what is known of a text that waits: its tokens and its first fault, the places of its first character that isn't white and behind the last one, and
 -- how far the tokens were read
 pub record IsKnown (text : List ℕ) (ts : List Token) (fault : Option (LexFault × ℕ)) (first last : ℕ) (reader : Reader) : Type 0 where
+  pub short : length text < 2 ^ 32
   pub lexed : lexis.tokens text ≡ lexed_as ts fault
   pub begins : first ≡ length text - length (drop_while is_white text)
   pub begins_between : IsCharBoundary text first

@@ -1,90 +1,113 @@
 //! How a client's input is cut into commands: lines are collected until they are a snippet, and some
 //! lines are commands of their own. `specs/Commands.antt` says it whole.
+//!
+//! A line is cut command by command, so that each can be served before the next one is cut.
 #![tactic(auto)]
 
-ghost use Rattle.std.specs.Prelude.{◌≡◌, ◌+◌, ◌^◌, ◌<◌, ◌≤◌, ◌++◌, ◌∷◌, [], true, length, IfOk};
+ghost use Rattle.std.specs.Prelude.{◌≡◌, ◌+◌, ◌^◌, ◌<◌, [], true, false, length, IfOk};
 ghost use Rattle.jsh_cut.specs.Commands as spec;
+ghost use Rattle.jsh_cut.specs.Cuttings.{by_tail, coming};
+ghost use Rattle.jsh_cut.specs.declared.held.Held.TheVariants as holds;
 
-mod behind;
 mod command;
+mod cutting;
 mod edge;
 mod held;
+mod laws;
 mod line;
+mod next;
 mod onward;
+mod remainder;
 mod rest;
 mod scan;
-mod text;
 mod waiting;
 
-use behind::cut_behind;
 pub use command::Command;
-pub use held::{Gives, Held};
-use jsh_tree::{Seq, SrcText};
+pub use cutting::{Cutting, Tail};
+pub use held::Held;
+use jsh_snippet::{Act, Question};
+use jsh_tree::SrcText;
+pub use laws::{exits_end_commands, held_texts_are_bounded};
 use line::{ends_before, is_slash_line, trim};
+pub use next::Next;
+pub use remainder::Remainder;
 use std::alloc::{AllocError, Global};
-use text::eval;
 pub use waiting::Waiting;
 
-/// Commands, and what a line gives that is a command.
-fn cut_command(alloc: Global, mut commands: Vec<Command>, line: &str) -> Result<Gives, AllocError>
-    ensures { IfOk result (λ gives. gives ≡ spec.with_commands commands.items (spec.by_command line.now)) }
+/// The act of a line that is a command, without its blanks.
+fn act_of(alloc: Global, line: &str) -> Result<Act, AllocError>
+    ensures { IfOk result (λ act. act ≡ spec.act_of line.now) }
 {
-    let line = trim(line);
-    let exits = line == "/exit";
-    if !exits {
-        commands.push(Command::Invalid(SrcText::from_text(alloc, line)?))?;
-    }
-    Ok(Gives {
-        commands: Seq::from_vec(commands),
-        held: Held::Nothing,
-        exits,
+    let line = SrcText::from_text(alloc, line)?;
+    Ok(Act::Ask {
+        question: Question::Invalid(line),
     })
 }
 
-/// Commands, and what a line gives where nothing is held.
-fn cut_first(alloc: Global, commands: Vec<Command>, line: &str) -> Result<Gives, AllocError>
-    requires { length line.now + 1 < 2 ^ 32 }
-    ensures { IfOk result (λ gives. gives ≡ spec.with_commands commands.items (spec.by_line line.now)) }
+/// What a line gives that is a command.
+fn tail_of_command(alloc: Global, line: &str) -> Result<Tail, AllocError>
+    ensures { IfOk result (λ tail. by_tail tail ≡ spec.by_command line.now) }
+{
+    let line = trim(line);
+    if line == "/exit" {
+        Ok(Tail::Exit)
+    } else {
+        Ok(Tail::Slash(act_of(alloc, line)?))
+    }
+}
+
+/// What a line gives before which a text ends.
+fn tail_of(alloc: Global, line: &str) -> Result<Tail, AllocError>
+    requires { spec.ends_before line.now ≡ true }
+    ensures { IfOk result (λ tail. by_tail tail ≡ spec.by_line line.now) }
 {
     if is_slash_line(line) {
-        cut_command(alloc, commands, line)
+        tail_of_command(alloc, line)
     } else {
-        cut_behind(alloc, commands, Waiting::new(alloc)?, line)
+        // white space alone gives nothing
+        Ok(Tail::Nothing)
     }
 }
 
-/// The commands that one line more gives, and what is held then. The line comes without its line feed.
-pub fn cut_line(alloc: Global, held: Held, line: &str) -> Result<Gives, AllocError>
-    requires few { length (spec.held_text held) + length line.now + 1 < 2 ^ 32 }
-    ensures value { IfOk result (λ gives. gives ≡ spec.cut_line held line.now) }
-    ensures few { IfOk result (λ gives. length (spec.held_text gives.held) ≤ length (spec.held_text held) + length line.now + 1) }
+/// Begins to cut a line where nothing is held.
+fn cut_first(alloc: Global, line: &str) -> Result<Cutting, AllocError>
+    requires { length line.now + 1 < 2 ^ 32 }
+    ensures { IfOk result (λ cutting. coming cutting ≡ spec.by_line line.now) }
 {
-    let mut commands = Vec::new(alloc);
+    if ends_before(line) {
+        Ok(Cutting::Last(tail_of(alloc, line)?))
+    } else {
+        let text = Waiting::new(alloc)?;
+        Ok(Cutting::Grown(text.with_line(alloc, line)?))
+    }
+}
+
+/// Begins to cut one line more, behind what is held. The line comes without its line feed.
+pub fn cut_line(alloc: Global, held: Held, line: &str) -> Result<Cutting, AllocError>
+    requires { length (spec.held_text held) + length line.now + 1 < 2 ^ 32 }
+    ensures { IfOk result (λ cutting. coming cutting ≡ spec.cut_line held line.now) }
+{
     match held {
-        Held::Nothing => cut_first(alloc, commands, line),
+        Held::Nothing => cut_first(alloc, line),
         Held::MayEnd(text) => {
             if ends_before(line) {
-                commands.push(eval(alloc, text.source())?)?;
-                cut_first(alloc, commands, line)
+                Ok(Cutting::Ends(text, tail_of(alloc, line)?))
             } else {
-                cut_behind(alloc, commands, text, line)
+                Ok(Cutting::Grown(text.with_line(alloc, line)?))
             }
         }
-        Held::MustGoOn(text) => cut_behind(alloc, commands, text, line),
+        Held::MustGoOn(text) => Ok(Cutting::Grown(text.with_line(alloc, line)?)),
     }
 }
 
-/// The commands of what is held where the input ends.
-pub fn cut_end(alloc: Global, held: Held) -> Result<Seq<Command>, AllocError>
-    requires few { length (spec.held_text held) < 2 ^ 32 }
-    ensures { IfOk result (λ commands. commands ≡ spec.cut_end held) }
+/// What is held where the input ends.
+pub fn cut_end(held: Held) -> Cutting
+    ensures { coming result ≡ record { commands = spec.cut_end held; held = holds.Nothing; exits = false } }
 {
-    let mut commands = Vec::new(alloc);
     match held {
-        Held::Nothing => {}
-        Held::MayEnd(text) | Held::MustGoOn(text) => commands.push(eval(alloc, text.source())?)?,
+        Held::Nothing => Cutting::Last(Tail::Nothing),
+        Held::MayEnd(text) | Held::MustGoOn(text) => Cutting::Ends(text, Tail::Nothing),
     }
-    Ok(Seq::from_vec(commands))
 }
 
 #[cfg(test)]

@@ -6,7 +6,7 @@ ghost use Rattle.jsh_cut.specs.Commands as spec;
 use crate::edge::{Edge, first_place, last_place};
 use jsh_lines::is_blank;
 
-/// The line without spaces and tabs at both ends, and without the carriage return of a line that ends in both.
+/// The line without spaces and tabs at its start, and without spaces, tabs and carriage returns at its end.
 pub fn trim(line: &str) -> &str
     ensures { result.now ≡ spec.trimmed line.now }
 {

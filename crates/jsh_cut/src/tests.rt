@@ -3,14 +3,14 @@
 ghost use Rattle.std.specs.Prelude.{◌≡◌, length};
 ghost use Rattle.jsh_cut.specs.Commands.{held_text};
 
-use crate::{Command, Held, cut_end, cut_line};
-use jsh_tree::Seq;
+use crate::{Cutting, Held, Next, cut_end, cut_line};
+use jsh_snippet::{Act, Question};
 use std::alloc::{AllocError, Global};
 use std::process::Abort;
 use std::test::Fail;
 
-/// Lines, what they give, what is held behind them, and what the end of the input gives then. `E<..>` is a snippet to evaluate, `I<..>` a
-/// line that no command is, and `X` an exit; `?<..>` is a text that may end, and `+<..>` one that must go on.
+/// Lines, what they give, what is held behind them, and what the end of the input gives then. `E<..>` is a snippet to evaluate, `I<..>` the act
+/// of a line that no command is, and `X` an exit; `?<..>` is a text that may end, and `+<..>` one that must go on.
 type Row = (&'static str, &'static str, &'static str, &'static str);
 
 /// Snippets of one line and of several.
@@ -284,14 +284,36 @@ fn tell(told: &mut String, mark: &str, text: &str) -> Result<(), AllocError> {
     told.push_str(">")
 }
 
-fn tell_commands(told: &mut String, commands: &[Command]) -> Result<(), AllocError> {
-    for command in commands {
-        match command {
-            Command::Eval(source) => tell(told, "E", source.as_str())?,
-            Command::Invalid(line) => tell(told, "I", line.as_str())?,
+fn tell_act(told: &mut String, act: &Act) -> Result<(), AllocError> {
+    match act {
+        Act::Ask {
+            question: Question::Invalid(line),
+        } => tell(told, "I", line.as_str()),
+        _ => told.push_str("another act"),
+    }
+}
+
+/// Tells each command as it is cut, and gives what is held behind them.
+fn tell_all(alloc: Global, cutting: Cutting, told: &mut String) -> Result<Held, Fail> {
+    let mut left = cutting;
+    for _ in 0..1_000_000 {
+        match left.next(alloc)? {
+            Next::Eval(source, behind) => {
+                tell(told, "E", source.as_str())?;
+                left = behind;
+            }
+            Next::Slash(act, behind) => {
+                tell_act(told, &act)?;
+                left = behind;
+            }
+            Next::Waits(held) => return Ok(held),
+            Next::Exit => {
+                told.push_str("X")?;
+                return Ok(Held::Nothing);
+            }
         }
     }
-    Ok(())
+    Err(Fail::from("an end of the line"))
 }
 
 fn held_told(alloc: Global, held: &Held) -> Result<String, AllocError> {
@@ -314,20 +336,12 @@ fn feed(
 ) -> Result<Held, Fail> {
     let length = length_of(&held);
     assert!(rt; length < 0x4000_0000 && line.len() < 0x4000_0000);
-    let gives = cut_line(alloc, held, line)?;
-    tell_commands(told, gives.commands.as_slice())?;
-    if gives.exits {
-        told.push_str("X")?;
-    }
-    Ok(gives.held)
+    tell_all(alloc, cut_line(alloc, held, line)?, told)
 }
 
-fn end_told(rt: &impl Abort, alloc: Global, held: Held) -> Result<String, Fail> {
-    let length = length_of(&held);
-    assert!(rt; length < 0x4000_0000);
-    let commands: Seq<Command> = cut_end(alloc, held)?;
+fn end_told(alloc: Global, held: Held) -> Result<String, Fail> {
     let mut told = String::new(alloc);
-    tell_commands(&mut told, commands.as_slice())?;
+    let _held = tell_all(alloc, cut_end(held), &mut told)?;
     Ok(told)
 }
 
@@ -341,7 +355,7 @@ fn check_all(rt: &impl Abort, alloc: Global, rows: &[Row]) -> Result<(), Fail> {
         assert_eq!(rt; told.as_str(), *gives, "what {:?} gives", lines);
         let holding = held_told(alloc, &held)?;
         assert_eq!(rt; holding.as_str(), *holds, "what is held behind {:?}", lines);
-        let ended = end_told(rt, alloc, held)?;
+        let ended = end_told(alloc, held)?;
         assert_eq!(rt;
             ended.as_str(),
             *ends,
@@ -394,15 +408,11 @@ fn long_line(alloc: Global, letters: u32, spaces: u32) -> Result<String, AllocEr
     Ok(line)
 }
 
-/// How many bytes of source the line submits, and how many bytes are held behind it.
+/// How many bytes of source the line submits, with the mark about it, and how many bytes are held behind it.
 fn lengths(rt: &impl Abort, alloc: Global, line: &str) -> Result<(usize, usize), Fail> {
-    assert!(rt; line.len() < 0x4000_0000);
-    let gives = cut_line(alloc, Held::Nothing, line)?;
-    let submitted = match gives.commands.as_slice() {
-        [Command::Eval(source)] => source.as_str().len(),
-        _ => 0,
-    };
-    Ok((submitted, length_of(&gives.held)))
+    let mut told = String::new(alloc);
+    let held = feed(rt, alloc, Held::Nothing, line, &mut told)?;
+    Ok((told.len(), length_of(&held)))
 }
 
 /// As many statements as given, on a line.
@@ -417,10 +427,10 @@ fn statements(alloc: Global, count: u32) -> Result<String, AllocError> {
 #[test]
 fn a_line_has_many_snippets(rt: HostRuntime) -> Result<(), Fail> {
     let line = statements(rt.alloc(), 20_000)?;
-    assert!(rt; line.len() < 0x4000_0000);
-    let gives = cut_line(rt.alloc(), Held::Nothing, line.as_str())?;
-    let left = length_of(&gives.held);
-    assert_eq!(rt; (gives.commands.as_slice().len(), left), (20_000, 0));
+    let mut told = String::new(rt.alloc());
+    let held = feed(&rt, rt.alloc(), Held::Nothing, line.as_str(), &mut told)?;
+    // each with a mark about it
+    assert_eq!(rt; (told.len(), length_of(&held)), (140_000, 0));
     Ok(())
 }
 
@@ -442,10 +452,10 @@ fn lines_are_too_long_together(rt: HostRuntime) -> Result<(), Fail> {
 
 #[test]
 fn a_source_that_is_too_long_does_not_wait(rt: HostRuntime) -> Result<(), Fail> {
-    // letters, spaces behind them, bytes submitted and bytes held
+    // letters, spaces behind them, bytes submitted with three about them, and bytes held
     let rows: [(u32, u32, usize, usize); 4] = [
         (65_535, 0, 0, 65_537),
-        (65_536, 0, 65_537, 0),
+        (65_536, 0, 65_540, 0),
         (65_535, 1_000, 0, 66_537),
         (0, 70_000, 0, 70_002),
     ];

@@ -117,7 +117,8 @@ impl Waiting {
     }
 
     pub fn as_str(&self) -> &str
-        ensures { result.now ≡ self.now }
+        ensures value { result.now ≡ self.now }
+        ensures short { length result.now < 2 ^ 32 }
     {
         self.text.as_str()
     }
@@ -161,7 +162,6 @@ impl Waiting {
 
     /// Whether the text is whole, and where its first snippet ends. Only the tokens are read that weren't yet.
     pub fn analyze(&mut self) -> Completion
-        requires { length self.old < 2 ^ 32 }
         ensures same { self.new ≡ self.old }
         ensures value { result ≡ spec.completion self.old }
         ensures between { result.kind ≡ completeness.Complete → IsCharBoundary self.old result.end }

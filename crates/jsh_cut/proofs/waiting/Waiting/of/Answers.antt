@@ -20,6 +20,7 @@ invariant_of-result c =
     let lexed : tokens text ≡ lexed_as ts fault =
     sym (joined_anew text) ∙ ap (λ (us : List Token). joined us (moved_lexed 0 (tokens text))) (sym c.new-tokens.ensures.items) ∙ c.in_ok-fault.ensures in
     let known : IsKnown text ts fault c.first_place.result c.last_place.result c.in_ok-new.field-0.value = record {
+      short = c.requires;
       lexed = lexed;
       begins = c.first_place.ensures.value;
       begins_between = c.first_place.ensures.between;
