@@ -6,13 +6,17 @@
 #![tactic(auto)]
 
 mod acts;
+mod classes;
 mod events;
+mod keys;
 mod kinds;
 mod records;
 mod replies;
 
 pub use acts::{Act, Entry, Question, Target};
+pub use classes::{ExpressionType, subkind_of};
 pub use events::Event;
+pub use keys::key_of;
 pub use kinds::{Fate, Kind, Status, Subkind};
 pub use records::Record;
 pub use replies::{Collected, LimitKind, Line, Outcome, Refusal, Reply, ReplyBody, Submitted};
