@@ -13,6 +13,7 @@ use Rattle.jsh_tree.specs.declared.modifier.Modifier.{Modifier}
 use Rattle.jsh_tree.specs.declared.modifier.Modifier.TheVariants as modifier
 use Rattle.jsh_tree.specs.declared.declaration.ModifierUse.{ModifierUse}
 use Rattle.jsh_tree.specs.declared.declaration.ClassDeclaration.{ClassDeclaration}
+use Rattle.jsh_tree.specs.declared.declaration.FieldDeclaration.{FieldDeclaration}
 use Rattle.jsh_tree.specs.declared.declaration.InterfaceDeclaration.{InterfaceDeclaration}
 use Rattle.jsh_tree.specs.declared.declaration.MethodDeclaration.{MethodDeclaration}
 use Rattle.jsh_tree.specs.declared.declaration.MemberDeclaration.{MemberDeclaration}
@@ -40,9 +41,13 @@ signature_of method = record {
   is_abstract = has_no_block method.body;
 }
 
--- the field that a member is (JLS 8.3)
+-- a field of a class (JLS 8.3)
+abbrev pub field_of : FieldDeclaration → Field
+field_of field = record { written = field.written.written; name = field.name.name }
+
+-- the field that a member is
 abbrev pub field_in : MemberDeclaration → List Field
-field_in (member.Field field) = record { written = field.written.written; name = field.name.name } ∷ []
+field_in (member.Field field) = field_of field ∷ []
 field_in _ = []
 
 -- the method that a member is

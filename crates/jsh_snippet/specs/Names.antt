@@ -20,10 +20,14 @@ units text = utf16 (chars text)
 abbrev pub type_text : TypeWritten → List ℕ
 type_text type = units type.name ++ repeat type.dims (codes "[]")
 
+-- a type behind another one
+abbrev pub further_type : TypeWritten → List ℕ
+further_type type = codes "," ++ type_text type
+
 -- `int,long`
 abbrev pub types_text : List TypeWritten → List ℕ
 types_text [] = []
-types_text (first ∷ rest) = type_text first ++ flat_map (λ type. codes "," ++ type_text type) rest
+types_text (first ∷ rest) = type_text first ++ flat_map further_type rest
 
 -- `f(int,long)`
 abbrev pub method_text : List ℕ → List TypeWritten → List ℕ
