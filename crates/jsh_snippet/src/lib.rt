@@ -6,13 +6,25 @@
 #![tactic(auto)]
 
 mod acts;
+mod classes;
 mod events;
+mod headers;
+mod keys;
 mod kinds;
+mod mentioned;
+mod naming;
 mod records;
 mod replies;
+#[cfg(test)]
+mod tests;
 
 pub use acts::{Act, Entry, Question, Target};
+pub use classes::{ExpressionType, subkind_of};
 pub use events::Event;
+pub use headers::header_of;
+pub use keys::key_of;
 pub use kinds::{Fate, Kind, Status, Subkind};
+pub use mentioned::mentions;
+pub use naming::name_of;
 pub use records::Record;
 pub use replies::{Collected, LimitKind, Line, Outcome, Refusal, Reply, ReplyBody, Submitted};
