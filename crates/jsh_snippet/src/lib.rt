@@ -1,8 +1,9 @@
 //! What a client asks of the engine and what it is answered, as plain data: kinds, statuses and fates
-//! of snippets, their records and events, acts with their entries, and replies.
+//! of snippets, their records and events, acts with their entries, and replies; and what a tree is as a
+//! snippet: its kind, key, header and name.
 //!
-//! A history is a list of entries. These types have no meaning of their own: the engine's definitions
-//! say what an entry does and what is replied.
+//! A history is a list of entries. The types of entries and replies have no meaning of their own: the
+//! engine's definitions say what an entry does and what is replied.
 #![tactic(auto)]
 
 mod acts;
@@ -15,8 +16,6 @@ mod mentioned;
 mod naming;
 mod records;
 mod replies;
-#[cfg(test)]
-mod tests;
 
 pub use acts::{Act, Entry, Question, Target};
 pub use classes::{ExpressionType, subkind_of};
@@ -28,3 +27,8 @@ pub use mentioned::mentions;
 pub use naming::name_of;
 pub use records::Record;
 pub use replies::{Collected, LimitKind, Line, Outcome, Refusal, Reply, ReplyBody, Submitted};
+
+#[cfg(test)]
+mod record_tests;
+#[cfg(test)]
+mod tests;
