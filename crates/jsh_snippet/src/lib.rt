@@ -16,7 +16,7 @@ mod naming;
 mod records;
 mod replies;
 #[cfg(test)]
-mod tests;
+mod tree_tests;
 
 pub use acts::{Act, Entry, Question, Target};
 pub use classes::{ExpressionType, subkind_of};
