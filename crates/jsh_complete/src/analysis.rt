@@ -6,6 +6,7 @@ ghost use Rattle.jsh_tree.specs.declared.token.TokenKind.TheVariants as token;
 ghost use Rattle.jsh_recognizer.specs.Recognizing.{kinds};
 ghost use Rattle.jsh_recognizer.specs.Stacks.{frames_of};
 ghost use Rattle.jsh_complete.specs.Completeness.{at_end, at_fault, IsSnippet, LacksSemicolon, end_of, IsCompletion};
+ghost use Rattle.jsh_complete.specs.Completing.{completion};
 ghost use Rattle.jsh_complete.specs.declared.completion.Completeness.TheVariants as completeness;
 ghost use Rattle.jsh_complete.specs.Reading.{IsBehind, MayCome, IsOpen, IsLongest, HasRead, Halts, counted_of, stop_of, IsGiven};
 
@@ -162,6 +163,7 @@ impl Reader {
         requires short { length text.now < 2 ^ 32 }
         requires read { HasRead tokens.now self.old }
         ensures completion { IsCompletion text.now tokens.now fault result }
+        ensures value { result ≡ completion text.now tokens.now fault }
         ensures read { HasRead tokens.now self.new }
         ensures longest { result.kind ≡ completeness.Complete → (0 < self.new.longest) × (result.end ≡ end_of (take self.new.longest tokens.now)) }
     {
@@ -180,7 +182,8 @@ impl Reader {
 /// The tokens are those of the text, or where it has a fault those before the first, whose kind is `fault`, as `lex` of `jsh_lex` gives them.
 pub fn analyze(text: &str, tokens: &[Token], fault: Option<LexFault>) -> Completion
     requires short { length text.now < 2 ^ 32 }
-    ensures { IsCompletion text.now tokens.now fault result }
+    ensures completion { IsCompletion text.now tokens.now fault result }
+    ensures value { result ≡ completion text.now tokens.now fault }
 {
     Reader::new().analyze(text, tokens, fault)
 }

@@ -1,11 +1,10 @@
 -- What a step answers has its cause.
-use Rattle.std.proofs.Common.{◌≡◌, ℕ, zero, suc, ◌+◌, ◌<◌, ◌≤◌, ◌==◌, ◌⊎◌, inl, inr, Bool, true, false, List, [], ◌∷◌, ◌++◌, Option, None, Some, Result, Ok, Err, IfOk, length, refl, ap, sym, subst, ◌∙◌, arith, cond, not, nat_le, add-one}
+use Rattle.std.proofs.Common.{◌≡◌, ℕ, zero, suc, ◌+◌, ◌<◌, ◌≤◌, ◌==◌, ◌⊎◌, inl, inr, Bool, true, false, List, [], ◌∷◌, ◌++◌, Option, None, Some, length, refl, ap, sym, subst, ◌∙◌, arith, cond, not, nat_le, add-one}
 use Rattle.std.specs.Option.{option_and_then}
 use Rattle.std.specs.Str.{IsUtf8}
 use Rattle.std.proofs.lemmas.Bool.{leb-true, leb-false, eqb-true, eqb-false, cases_order}
-use Rattle.jsh_tree.specs.declared.tree.Sum.{Sum}
+use Rattle.jsh_sum.specs.declared.sums.Sum.{Sum}
 use Rattle.jsh_tree.specs.declared.diagnostic.Diagnostic.{Diagnostic}
-use Rattle.jsh_text.specs.declared.memory.NoMemory.{NoMemory}
 use Rattle.jsh_snippet.specs.declared.acts.Act.{Act}
 use Rattle.jsh_snippet.specs.declared.acts.Act.TheVariants as act
 use Rattle.jsh_snippet.specs.declared.acts.Entry.{Entry}
@@ -15,7 +14,7 @@ use Rattle.jsh_snippet.specs.declared.replies.Reply.{Reply}
 use Rattle.jsh_snippet.specs.declared.replies.ReplyBody.{ReplyBody}
 use Rattle.jsh_snippet.specs.declared.replies.ReplyBody.TheVariants as body
 use Rattle.jsh_snippet.specs.declared.replies.Collected.TheVariants as «collected»
-use Rattle.jsh_snippet.specs.declared.replies.Outcome.TheVariants as outcome
+use Rattle.jsh_snippet.specs.declared.replies.Outcome.{Outcome}
 use Rattle.jsh_snippet.specs.declared.replies.Refusal.TheVariants as refusal
 use Rattle.jsh_snippet.specs.declared.replies.LimitKind.TheVariants as limit
 use Rattle.jsh_verdict.specs.declared.verdict.Verdict.{Verdict}
@@ -29,9 +28,10 @@ use Rattle.jsh_core.specs.declared.world.RunView.{RunView}
 use Rattle.jsh_core.specs.State.{State, Stepped, World, answer, numbered, refuses}
 use Rattle.jsh_core.specs.Snippets.{accepted, alive_count, judged, rejected_reply, run_of, submitted, temporary_name}
 use Rattle.jsh_core.specs.Threads.{can_go_on, stepped, turn, turned, Turned}
-use Rattle.jsh_core.specs.Runs.{collect, collect_run, is_thread_alive, own_run, returned_text, run_view, standing, steps_so_far, view_of}
+use Rattle.jsh_core.specs.Runs.{collect, collect_run, handed_out, is_thread_alive, outcome_of, own_run, run_view, runs_on, steps_so_far, view_of}
 use Rattle.jsh_core.specs.Clients.{enter}
 use Rattle.jsh_core.specs.Step.{act_step, step}
+use Rattle.jsh_core.specs.Acts.{HandsInUtf8}
 use Rattle.jsh_core.specs.Causes.{CausesOfAct, CausesOfCollect, CausesOfEnter, CausesOfSubmit, CausesOfTurn, GoesSoFar, AnswerHasCause, IsOwner, IsOwnRun, IsSum, world_after}
 use Rattle.jsh_core.specs.History.{Allows, MayDo, state_of}
 use Rattle.jsh_core.proofs.TurnLemmas.{further, turned-stuck, turned-suc, turned-zero}
@@ -54,8 +54,8 @@ enter-causes s = from (nat_le 64 (length s.clients)) refl
 
 -- no source is accepted and rejected
 not_both : (source : List ℕ) (ds : List Diagnostic) → verdict source ≡ Rejected ds → ¬ IsSum source
-not_both source ds is (sum, accepted) =
-    let other : verdict source ≡ Accepted sum = accepts source sum accepted in
+not_both source ds is (sum, cause) =
+    let other : verdict source ≡ Accepted sum = accepts source sum cause in
     cc
 
 not_rejected : (source : List ℕ) (sum : Sum) (ds : List Diagnostic) → verdict source ≡ Accepted sum → ¬ IsRejected source ds
@@ -94,7 +94,7 @@ judged-causes s client source (Accepted sum) utf8 found few = from (nat_le 256 (
     is_sum = (sum, accepted_because source sum found)
 
     from : (full : Bool) → nat_le 256 (alive_count s) ≡ full →
-        CausesOfSubmit s source (cond full (refuses s (refusal.Limit limit.Threads 256)) (accepted s client source sum)).reply.body
+        CausesOfSubmit s source (cond full (refuses s (refusal.Limit limit.Threads 256)) (accepted s client source)).reply.body
     from true e =
         let many : 256 ≤ alive_count s = leb-true 256 (alive_count s) e in
         record {
@@ -224,11 +224,11 @@ turn-causes s thread most some = record {
     so_far : (steps : ℕ) → (turned s.book thread most s.world).steps ≡ steps → GoesSoFar s.book thread most s.world steps
     so_far steps is = subst (λ n. GoesSoFar s.book thread most s.world n) is h.far
 
--- an own run that is there, by the text that its main thread has returned
-own-causes : (s : State) (client number : ℕ) (run : Run) (view : RunView) (text : Option (List ℕ)) → IsOwnRun s client number run →
-    run_view s number ≡ Some view → view.owner ≡ client → returned_text s.world run ≡ text →
-    CausesOfCollect s client number (body.Collected (standing s.world run text))
-own-causes s client number run view text own seen owner is = from text is
+-- an own run that is there, by whether its main thread is alive
+own-causes : (s : State) (client number : ℕ) (run : Run) (view : RunView) (alive : Bool) → IsOwnRun s client number run →
+    run_view s number ≡ Some view → view.owner ≡ client → is_thread_alive s.world run.main ≡ alive →
+    CausesOfCollect s client number (cond alive (runs_on s run) (handed_out s number run)).reply.body
+own-causes s client number run view alive own seen owner is = from alive is
   where
     -- the same owner, and the same run
     the_owner : (other : ℕ) → IsOwner s other number → other ≡ client
@@ -238,27 +238,29 @@ own-causes s client number run view text own seen owner is = from text is
     the_run : (other : Run) → IsOwnRun s client number other → other ≡ run
     the_run other o = let e : Some other ≡ Some run = sym o.found ∙ own.found in cc
 
-    from : (text : Option (List ℕ)) → returned_text s.world run ≡ text → CausesOfCollect s client number (body.Collected (standing s.world run text))
-    from None is = record {
+    lives : (other : Run) → IsOwnRun s client number other → is_thread_alive s.world run.main ≡ is_thread_alive s.world other.main
+    lives other o = ap (λ (r : Run). is_thread_alive s.world r.main) (sym (the_run other o))
+
+    from : (alive : Bool) → is_thread_alive s.world run.main ≡ alive → CausesOfCollect s client number (cond alive (runs_on s run) (handed_out s number run)).reply.body
+    from true is = record {
       no_such_run = (λ a. (cc), λ none. let e : Some view ≡ None = sym seen ∙ none in cc);
       not_owner = λ other. (λ a. (cc), λ c. absurd (c.0 (the_owner other c.1)));
       running = λ steps. (
         λ a. (run, own, is, (cc)),
         λ c. ap (λ n. body.Collected («collected».Running n)) (ap (steps_so_far s.world) (sym (the_run c.0 c.1)) ∙ c.3),
       );
-      over = λ id said. (λ a. (cc), λ c. let e : None ≡ Some said = sym is ∙ ap (returned_text s.world) (sym (the_run c.0 c.1)) ∙ c.2 in cc);
+      over = λ id ended. (λ a. (cc), λ c. let e : true ≡ false = sym is ∙ lives c.0 c.1 ∙ c.2 in cc);
     }
-    from (Some text) is = record {
+    from false is = record {
       no_such_run = (λ a. (cc), λ none. let e : Some view ≡ None = sym seen ∙ none in cc);
       not_owner = λ other. (λ a. (cc), λ c. absurd (c.0 (the_owner other c.1)));
-      running = λ steps. (λ a. (cc), λ c. let e : Some text ≡ None = sym is ∙ ap (returned_text s.world) (sym (the_run c.0 c.1)) ∙ c.2 in cc);
-      over = λ id said. (
-        λ a. (run, own, (let e : text ≡ said = cc in is ∙ ap Some e), (cc)),
-        λ c. let e : Some text ≡ Some said = sym is ∙ ap (returned_text s.world) (sym (the_run c.0 c.1)) ∙ c.2 in
-            let said_same : text ≡ said = cc in
-            let same : run.snippet ≡ id = ap (λ (r : Run). r.snippet) (sym (the_run c.0 c.1)) ∙ c.3 in
-            ap (λ n. body.Collected («collected».Over n (temporary_name n) (outcome.Value text))) same
-            ∙ ap (λ (x : List ℕ). body.Collected («collected».Over id (temporary_name id) (outcome.Value x))) said_same,
+      running = λ steps. (λ a. (cc), λ c. let e : false ≡ true = sym is ∙ lives c.0 c.1 ∙ c.2 in cc);
+      over = λ id ended. (
+        λ a. (run, own, is, (cc), (cc)),
+        λ c. let same : run.snippet ≡ id = ap (λ (r : Run). r.snippet) (sym (the_run c.0 c.1)) ∙ c.3 in
+            let how : outcome_of s.world run ≡ ended = ap (outcome_of s.world) (sym (the_run c.0 c.1)) ∙ c.4 in
+            ap (λ n. body.Collected («collected».Over n (temporary_name n) (outcome_of s.world run))) same
+            ∙ ap (λ (o : Outcome). body.Collected («collected».Over id (temporary_name id) o)) how,
       );
     }
 
@@ -297,7 +299,7 @@ found-causes s client number (Some run) found = from run.gone (run.owner == clie
     from false true is_there is_own =
         let seen : run_view s number ≡ Some view = at_run ∙ ap (λ b. cond b None (Some view)) is_there in
         let owner : run.owner ≡ client = eqb-true run.owner client is_own in
-        own-causes s client number run view (returned_text s.world run) (record { found = found; there = is_there; owner = owner }) seen owner refl
+        own-causes s client number run view (is_thread_alive s.world run.main) (record { found = found; there = is_there; owner = owner }) seen owner refl
     from false false is_there is_own =
         let seen : run_view s number ≡ Some view = at_run ∙ ap (λ b. cond b None (Some view)) is_there in
         record {
@@ -322,11 +324,6 @@ found-causes s client number (Some run) found = from run.gone (run.owner == clie
 collect-causes : (s : State) (client number : ℕ) → CausesOfCollect s client number (collect s client number).reply.body
 collect-causes s client number = found-causes s client number (numbered s.world.runs number) refl
 
--- the source that an act hands in is UTF-8
-abbrev pub HandsInUtf8 : Act → Type 0
-HandsInUtf8 (act.Submit source) = IsUtf8 source
-HandsInUtf8 _ = Unit {0}
-
 -- what an allowed act is answered has its cause
 act-causes : (history : List Entry) (client : ℕ) (asked : Act) → HandsInUtf8 asked → MayDo history client asked →
     CausesOfAct (state_of history) client asked (act_step (state_of history) client asked).reply.body
@@ -345,11 +342,7 @@ act-causes history client act.Leave utf8 may = refl
 act-causes history client act.Close utf8 may = refl
 
 -- a reply that is that of the step has its cause
-pub reply-causes : (history : List Entry) (entry : Entry) (asked : Act) (result : Result Reply NoMemory) → entry.act ≡ asked → Allows history entry →
-    HandsInUtf8 asked → IfOk result (λ reply. reply ≡ (step (state_of history) (record { client = entry.client; act = asked })).reply) →
-    IfOk result (λ reply. AnswerHasCause (state_of history) entry reply.body)
-reply-causes history entry asked (Ok reply) is allowed utf8 same =
-    let whole : reply ≡ (step (state_of history) entry).reply =
-    same ∙ ap (λ (a : Act). (act_step (state_of history) entry.client a).reply) (sym is) in
-    subst (λ (r : Reply). AnswerHasCause (state_of history) entry r.body) (sym whole) (act-causes history entry.client entry.act (subst (λ (a : Act). HandsInUtf8 a) (sym is) utf8) allowed.may)
-reply-causes history entry asked (Err error) is allowed utf8 same = tt
+pub reply-causes : (history : List Entry) (entry : Entry) (reply : Reply) → Allows history entry → HandsInUtf8 entry.act →
+    reply ≡ (step (state_of history) entry).reply → AnswerHasCause (state_of history) entry reply.body
+reply-causes history entry reply allowed utf8 same =
+    subst (λ (r : Reply). AnswerHasCause (state_of history) entry r.body) (sym same) (act-causes history entry.client entry.act utf8 allowed.may)

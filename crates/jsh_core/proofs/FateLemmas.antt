@@ -3,12 +3,11 @@ use Rattle.std.proofs.Common.{◌≡◌, ◌≢◌, ◌↔◌, ℕ, zero, suc, �
 use Rattle.std.specs.List.{slice_get}
 use Rattle.std.specs.Option.{option_and_then, option_map}
 use Rattle.std.proofs.lemmas.Bool.{eqb-true, eqb-false, cases_eq}
-use Rattle.jsh_tree.specs.declared.tree.Sum.{Sum}
+use Rattle.jsh_sum.specs.declared.sums.Sum.{Sum}
 use Rattle.jsh_snippet.specs.declared.acts.Act.{Act}
 use Rattle.jsh_snippet.specs.declared.acts.Act.TheVariants as act
 use Rattle.jsh_snippet.specs.declared.acts.Entry.{Entry}
 use Rattle.jsh_snippet.specs.declared.records.Record.{Record}
-use Rattle.jsh_snippet.specs.declared.replies.ReplyBody.TheVariants as body
 use Rattle.jsh_snippet.specs.declared.replies.Refusal.TheVariants as refusal
 use Rattle.jsh_snippet.specs.declared.replies.LimitKind.TheVariants as limit
 use Rattle.jsh_verdict.specs.declared.verdict.Verdict.{Verdict}
@@ -18,11 +17,11 @@ use Rattle.jsh_core.specs.declared.world.Thread.{Thread}
 use Rattle.jsh_core.specs.declared.world.Frame.{Frame}
 use Rattle.jsh_core.specs.declared.world.Run.{Run}
 use Rattle.jsh_core.specs.declared.world.RunView.{RunView}
-use Rattle.jsh_core.specs.State.{State, Stepped, World, answer, numbered, opening, refuses}
+use Rattle.jsh_core.specs.State.{State, Stepped, World, numbered, opening, refuses}
 use Rattle.jsh_core.specs.Snippets.{accepted, alive_count, judged, run_of, submitted}
 use Rattle.jsh_core.specs.Threads.{Next, body_step, can_go_on, frame_step, next, performed, stepped, sum_of, thread_step, turned, Turned}
 use Rattle.jsh_core.specs.Threads.Next.{Sets, Returns}
-use Rattle.jsh_core.specs.Runs.{collect_run, dropped, handed_out, is_thread_alive, own_run, returned_text, run_view, standing, view_of}
+use Rattle.jsh_core.specs.Runs.{collect_run, dropped, handed_out, is_thread_alive, own_run, run_view, runs_on, view_of}
 use Rattle.jsh_core.specs.Clients.{enter}
 use Rattle.jsh_core.specs.Step.{act_step, step}
 use Rattle.jsh_core.specs.Fates.{HasRun, Makes, Stays, TakesAway, WasMade, is_over}
@@ -34,7 +33,7 @@ use Rattle.jsh_core.proofs.Evaluation.{numbered-set}
 
 -- items by their numbers
 
-slice_get-append : {A : Type 0} (items more : List A) (i : ℕ) (item : A) → slice_get items i ≡ Some item → slice_get (items ++ more) i ≡ Some item
+pub slice_get-append : {A : Type 0} (items more : List A) (i : ℕ) (item : A) → slice_get items i ≡ Some item → slice_get (items ++ more) i ≡ Some item
 slice_get-append [] more i item e = cc
 slice_get-append (x ∷ xs) more zero item e = e
 slice_get-append (x ∷ xs) more (suc i) item e = slice_get-append xs more i item e
@@ -79,7 +78,7 @@ numbered-longer items new number item e = from (number == 0) refl e
         at_place (inl old) = inl old
         at_place (inr (last, same)) = inr (last_is z last, same)
 
-slice_get-set_other : {A : Type 0} (items : List A) (i k : ℕ) (new : A) → i ≢ k → slice_get (set items i new) k ≡ slice_get items k
+pub slice_get-set_other : {A : Type 0} (items : List A) (i k : ℕ) (new : A) → i ≢ k → slice_get (set items i new) k ≡ slice_get items k
 slice_get-set_other [] i k new other = refl
 slice_get-set_other (x ∷ xs) zero zero new other = absurd (other refl)
 slice_get-set_other (x ∷ xs) zero (suc k) new other = refl
@@ -270,14 +269,14 @@ submit-fate : (s : State) (client : ℕ) (source : List ℕ) (owner number : ℕ
     Fate s.world.runs (submitted s client source).state.world.runs owner number taken (Made client owner number (submitted s client source))
 submit-fate s client source owner number taken untaken = from (nat_le 16384 (length s.book))
   where
-    below : (full : Bool) (sum : Sum) → Fate s.world.runs (cond full (refuses s (refusal.Limit limit.Threads 256)) (accepted s client source sum)).state.world.runs owner number taken
-        (Made client owner number (cond full (refuses s (refusal.Limit limit.Threads 256)) (accepted s client source sum)))
-    below true sum = quiet _ _ owner number taken _ refl untaken (λ m. let e : None ≡ Some number = m.1 in cc)
-    below false sum = made-fate s.world.runs client (length s.world.threads + 1) (length s.book + 1) owner number taken untaken
+    below : (full : Bool) → Fate s.world.runs (cond full (refuses s (refusal.Limit limit.Threads 256)) (accepted s client source)).state.world.runs owner number taken
+        (Made client owner number (cond full (refuses s (refusal.Limit limit.Threads 256)) (accepted s client source)))
+    below true = quiet _ _ owner number taken _ refl untaken (λ m. let e : None ≡ Some number = m.1 in cc)
+    below false = made-fate s.world.runs client (length s.world.threads + 1) (length s.book + 1) owner number taken untaken
 
     of : (found : Verdict) → Fate s.world.runs (judged s client source found).state.world.runs owner number taken (Made client owner number (judged s client source found))
     of (Rejected ds) = quiet _ _ owner number taken _ refl untaken (λ m. let e : None ≡ Some number = m.1 in cc)
-    of (Accepted sum) = below (nat_le 256 (alive_count s)) sum
+    of (Accepted sum) = below (nat_le 256 (alive_count s))
 
     from : (full : Bool) → Fate s.world.runs (cond full (refuses s (refusal.Limit limit.Records 16384)) (judged s client source (verdict source))).state.world.runs owner number taken
         (Made client owner number (cond full (refuses s (refusal.Limit limit.Records 16384)) (judged s client source (verdict source))))
@@ -296,21 +295,18 @@ collect-fate s client asked owner number (Some run) found = from run.gone (run.o
     after : Bool → Bool → Stepped
     after gone own = cond gone (refuses s (refusal.NoSuchRun asked)) (cond own (own_run s asked run) (refuses s (refusal.NotOwner run.owner)))
 
-    told : Option (List ℕ) → Stepped
-    told text = record {
-      state = record s { world = record s.world { runs = handed_out s.world.runs asked run text } };
-      reply = answer (body.Collected (standing s.world run text));
-    }
+    told : Bool → Stepped
+    told alive = cond alive (runs_on s run) (handed_out s asked run)
 
-    returned : (text : Option (List ℕ)) → run.owner ≡ client →
-        Fate s.world.runs (told text).state.world.runs owner number (Handed client asked owner number (told text)) (Made client owner number (told text))
-    returned None own = quiet _ _ owner number _ _ refl (λ t. let e : false ≡ true = t.1.1 in cc) (λ m. let e : None ≡ Some number = m.1 in cc)
-    returned (Some text) own = handed-fate s.world.runs client asked owner number run _ found own (λ m. let e : None ≡ Some number = m.1 in cc)
+    by_life : (alive : Bool) → run.owner ≡ client →
+        Fate s.world.runs (told alive).state.world.runs owner number (Handed client asked owner number (told alive)) (Made client owner number (told alive))
+    by_life true own = quiet _ _ owner number _ _ refl (λ t. let e : false ≡ true = t.1.1 in cc) (λ m. let e : None ≡ Some number = m.1 in cc)
+    by_life false own = handed-fate s.world.runs client asked owner number run _ found own (λ m. let e : None ≡ Some number = m.1 in cc)
 
     from : (gone own : Bool) → (run.owner == client) ≡ own →
         Fate s.world.runs (after gone own).state.world.runs owner number (Handed client asked owner number (after gone own)) (Made client owner number (after gone own))
     from true own is_own = quiet _ _ owner number _ _ refl (λ t. let e : false ≡ true = t.1.1 in cc) (λ m. let e : None ≡ Some number = m.1 in cc)
-    from false true is_own = returned (returned_text s.world run) (eqb-true run.owner client is_own)
+    from false true is_own = by_life (is_thread_alive s.world run.main) (eqb-true run.owner client is_own)
     from false false is_own = quiet _ _ owner number _ _ refl (λ t. let e : false ≡ true = t.1.1 in cc) (λ m. let e : None ≡ Some number = m.1 in cc)
 
 enter-fate : (s : State) (client owner number : ℕ) (taken : Type 0) → ¬ taken →

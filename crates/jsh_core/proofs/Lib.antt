@@ -7,3 +7,6 @@ pub mod FateLemmas
 pub mod WorldLemmas
 pub mod Evaluation
 pub mod Picking
+pub mod ActLemmas
+pub mod KeptLemmas
+pub mod Steps

@@ -1,6 +1,6 @@
 -- What stands for a history, when an entry more comes.
-use Rattle.std.proofs.Common.{◌≡◌, ℕ, suc, zero, ◌+◌, ◌*◌, ◌<◌, ◌≤◌, Bool, true, false, cond, List, [], ◌∷◌, ◌++◌, Option, None, Some, length, min, set, get_or, refl, ap, sym, subst, ◌∙◌, arith, append_assoc, append-nil, length-append, add-zero}
-use Rattle.std.specs.Prelude.{◌||◌, ◌==◌, if◌then◌else◌, not, eqb}
+use Rattle.std.proofs.Common.{◌≡◌, ℕ, suc, ◌+◌, ◌*◌, ◌<◌, ◌≤◌, Bool, true, false, cond, List, [], ◌∷◌, ◌++◌, Option, None, Some, length, min, set, get_or, refl, ap, sym, subst, ◌∙◌, arith, append_assoc, append-nil, length-append, add-zero, vec_capacity}
+use Rattle.std.specs.Prelude.{◌||◌, if◌then◌else◌, not, eqb}
 use Rattle.std.proofs.Math.Nat.{le_refl}
 use Rattle.std.proofs.lemmas.Bool.{le-ltb, lt-ltb}
 use Rattle.std.proofs.lemmas.Bool.Decides.{nat_tests}
@@ -8,17 +8,20 @@ use Rattle.std.proofs.lemmas.List.Folds.{position_or_len_push}
 use Rattle.std.specs.List.{slice_get, sum_by, position_or_len, list_any}
 use Rattle.std.proofs.lemmas.List.Sums.{sum_by-append, sum_by-set, count_by-le-length}
 use Rattle.std.proofs.lemmas.Option.{get_or_from_slice_get, slice_get_within}
+use Rattle.jsh_snippet.specs.declared.acts.Act.{Act}
 use Rattle.jsh_snippet.specs.declared.acts.Act.TheVariants as act
 use Rattle.jsh_snippet.specs.declared.acts.Entry.{Entry}
-use Rattle.jsh_snippet.specs.declared.records.Record.{Record}
+use Rattle.jsh_snippet.specs.declared.replies.Reply.{Reply}
 use Rattle.jsh_core.specs.declared.parts.Parts.{Parts}
-use Rattle.jsh_core.specs.declared.parts.WorldParts.{WorldParts}
-use Rattle.jsh_core.specs.State.{State, World, opening}
-use Rattle.jsh_core.specs.Parts.{state_from, world_of, IsSound, IsWorld, StepsAtMost}
-use Rattle.jsh_core.specs.Threads.{turned}
-use Rattle.jsh_core.specs.Step.{step}
-use Rattle.jsh_core.specs.History.{state_after, source_bytes, act_bytes, is_close, closed_at, Allows, IsLegalAfter, IsLegal}
-use Rattle.jsh_core.specs.Stands.{StandsFor, present_count}
+use Rattle.jsh_core.specs.declared.log.Log.{Log}
+use Rattle.jsh_core.specs.declared.world.Thread.{Thread}
+use Rattle.jsh_core.specs.Limits.{most_entries, most_steps}
+use Rattle.jsh_core.specs.State.{State, Stepped, opening}
+use Rattle.jsh_core.specs.Parts.{state_from, IsSound, StepsAtMost}
+use Rattle.jsh_core.specs.Acts.{act_steps, is_last, IsDone}
+use Rattle.jsh_core.specs.Step.{act_step, step}
+use Rattle.jsh_core.specs.History.{state_after, source_bytes, act_bytes, is_close, closed_at, state_of, Allows, MayDo, IsLegalAfter, IsLegal}
+use Rattle.jsh_core.specs.Stands.{StandsFor, entry_room, present_count}
 use Rattle.jsh_core.proofs.Bounds.{StepsAtMost-weaker}
 
 pub state_after-more : (s : State) (es : List Entry) (e : Entry) → state_after s (es ++ e ∷ []) ≡ (step (state_after s es) e).state
@@ -72,133 +75,154 @@ open_length_more : (h : List Entry) (e : Entry) → list_any closes h ≡ false 
 open_length_more h e o =
     position_or_len_push closes h e ∙ rw (open_length h o, eqb_same (length h)) refl
 
--- an entry that is no close leaves it open
-closed_at-more : (h : List Entry) (e : Entry) → list_any closes h ≡ false → closes e ≡ false → closed_at (h ++ e ∷ []) ≡ None
-closed_at-more h e o stays =
-    let at : position_or_len closes (h ++ e ∷ []) ≡ length h + 1 = open_length_more h e o ∙ ap (λ b. length h + cond b 0 1) stays in
-    let past : length (h ++ e ∷ []) ≤ length h + 1 = simp length-append (omega arith) in
-    rw (at, le-ltb (length h + 1) (length (h ++ e ∷ [])) past) refl
-
--- a close stands behind all that was there
-closed_at-close : (h : List Entry) (e : Entry) → list_any closes h ≡ false → closes e ≡ true → closed_at (h ++ e ∷ []) ≡ Some (length h)
-closed_at-close h e o ends =
-    let at : position_or_len closes (h ++ e ∷ []) ≡ length h = open_length_more h e o ∙ ap (λ b. length h + cond b 0 1) ends ∙ add-zero (length h) in
-    let within : length h < length (h ++ e ∷ []) = simp length-append (omega arith) in
-    rw (at, lt-ltb (length h) (length (h ++ e ∷ [])) within) refl
-
--- the same parts, or others for the same state, with at least as much room
-pub StandsFor-same : (history same : List Entry) (capacity wider count : ℕ) (close : Option ℕ) (parts after : Parts) →
-    StandsFor history capacity parts count close → same ≡ history → capacity ≤ wider → state_from after ≡ state_from parts → IsSound after →
-    StepsAtMost (256 * min (length history) 4194304) after.world.threads.items → StandsFor same wider after count close
-StandsFor-same history same capacity wider count close parts after old is wide alike sound few =
-    let clients : after.clients.items ≡ parts.clients.items = ap (λ (s : State). s.clients) alike in
-    let room : (close ≡ None → length history + present_count after.clients.items + 1 ≤ wider) = λ none. rw clients (more (old.room none)) in
-    let done : StandsFor history wider after count close = record {
-      legal = old.legal;
-      state = alike ∙ old.state;
-      sound = sound;
-      steps = few;
-      bytes = old.bytes;
-      closed = old.closed;
-      room = room;
-    } in
-    subst (λ (h : List Entry). StandsFor h wider after count close) (sym is) done
+-- where an entry comes behind an open history
+closed_at-more : (h : List Entry) (e : Entry) → list_any closes h ≡ false →
+    closed_at (h ++ e ∷ []) ≡ (if closes e then Some (length h) else None)
+closed_at-more h e o = from (closes e) refl
   where
-    more : length history + present_count parts.clients.items + 1 ≤ capacity → length history + present_count parts.clients.items + 1 ≤ wider
+    at : (b : Bool) → closes e ≡ b → position_or_len closes (h ++ e ∷ []) ≡ length h + cond b 0 1
+    at b is = open_length_more h e o ∙ ap (λ c. length h + cond c 0 1) is
+
+    from : (b : Bool) → closes e ≡ b → closed_at (h ++ e ∷ []) ≡ (if b then Some (length h) else None)
+    from true is =
+        let place : position_or_len closes (h ++ e ∷ []) ≡ length h = at true is ∙ add-zero (length h) in
+        let within : length h < length (h ++ e ∷ []) = simp length-append (omega arith) in
+        rw (place, lt-ltb (length h) (length (h ++ e ∷ [])) within) refl
+    from false is =
+        let past : length (h ++ e ∷ []) ≤ length h + 1 = simp length-append (omega arith) in
+        rw (at false is, le-ltb (length h + 1) (length (h ++ e ∷ [])) past) refl
+
+-- the log with more room, and parts for the same state
+pub StandsFor-same : (log same : Log) (parts after : Parts) → StandsFor log parts → same.history.items ≡ log.history.items → same.bytes ≡ log.bytes →
+    same.closed ≡ log.closed → vec_capacity log.history ≤ vec_capacity same.history → state_from after ≡ state_from parts → IsSound after → StandsFor same after
+StandsFor-same log same parts after old items bytes closed wide alike sound = record {
+  legal = subst (λ (h : List Entry). IsLegal h) (sym items) old.legal;
+  state = alike ∙ old.state ∙ sym (ap state_of items);
+  sound = sound;
+  steps = rw (items, ap (λ (s : State). s.world.threads) alike) old.steps;
+  bytes = bytes ∙ old.bytes ∙ sym (ap source_bytes items);
+  closed = closed ∙ old.closed ∙ sym (ap closed_at items);
+  room = λ none. subst (λ (h : List Entry). length h + present_count after.clients.items + 1 ≤ vec_capacity same.history) (sym items)
+      (subst (λ (clients : List Bool). length log.history.items + present_count clients + 1 ≤ vec_capacity same.history) (sym (ap (λ (s : State). s.clients) alike))
+      (more (old.room (sym closed ∙ none))));
+}
+  where
+    more : length log.history.items + present_count parts.clients.items + 1 ≤ vec_capacity log.history →
+        length log.history.items + present_count parts.clients.items + 1 ≤ vec_capacity same.history
     more h = omega arith
 
--- what stands for a history that is an entry longer
-next : (history : List Entry) (entry : Entry) (capacity wider count : ℕ) (close later : Option ℕ) (parts after : Parts) →
-    StandsFor history capacity parts count close → Allows history entry →
-    state_from after ≡ (step (state_from parts) entry).state → IsSound after →
-    StepsAtMost (256 * min (length (history ++ entry ∷ [])) 4194304) after.world.threads.items →
-    later ≡ closed_at (history ++ entry ∷ []) →
-    (later ≡ None → length (history ++ entry ∷ []) + present_count after.clients.items + 1 ≤ wider) →
-    StandsFor (history ++ entry ∷ []) wider after (count + act_bytes entry.act) later
-next history entry capacity wider count close later parts after old allowed is sound few ends room = record {
-  legal = IsLegal-more history entry old.legal allowed;
-  state = is ∙ ap (λ (s : State). (step s entry).state) old.state ∙ sym (state_after-more opening history entry);
-  sound = sound;
-  steps = few;
-  bytes = rw (source_bytes-more history entry, old.bytes) refl;
-  closed = ends;
-  room = room;
-}
+-- a log that is an entry longer, in which this is counted
+pub record IsLonger (log longer : Log) (entry : Entry) : Type 0 where
+  pub items : longer.history.items ≡ log.history.items ++ entry ∷ []
+  pub capacity : vec_capacity log.history ≤ vec_capacity longer.history
+  pub bytes : longer.bytes ≡ log.bytes + act_bytes entry.act
+  pub closed : longer.closed ≡ (if is_close entry.act then Some (length log.history.items) else log.closed)
 
-steps_more : (history : List Entry) (entry : Entry) (after : Parts) → length history < 4194304 →
-    StepsAtMost (256 * min (length history) 4194304 + 256) after.world.threads.items → StepsAtMost (256 * min (length (history ++ entry ∷ [])) 4194304) after.world.threads.items
-steps_more history entry after few h =
-    let long : length (history ++ entry ∷ []) ≡ length history + 1 = simp length-append (omega arith) in
-    let wide : 256 * min (length history) 4194304 + 256 ≤ 256 * min (length (history ++ entry ∷ [])) 4194304 = omega arith in
-    StepsAtMost-weaker _ _ _ wide h
+-- the steps of the threads keep to the bound of the longer history
+steps-more : (history : List Entry) (client : ℕ) (what : Act) (threads : List Thread) → MayDo history client what →
+    StepsAtMost (most_steps * min (length history) most_entries + act_steps what) threads →
+    StepsAtMost (most_steps * min (length (history ++ record { client = client; act = what } ∷ [])) most_entries) threads
+steps-more history client what threads may h = within what may h
+  where
+    more : List Entry → List Entry
+    more rest = history ++ rest
 
--- an entry more, which is no close, where there is room for the last entries
-pub StandsFor-next : (history longer : List Entry) (entry : Entry) (capacity wider count more : ℕ) (close : Option ℕ) (parts after : Parts) →
-    StandsFor history capacity parts count close → Allows history entry → closes entry ≡ false → length history < 4194304 →
-    longer ≡ history ++ entry ∷ [] → state_from after ≡ (step (state_from parts) entry).state → IsSound after →
-    StepsAtMost (256 * min (length history) 4194304 + 256) after.world.threads.items →
-    more ≡ count + act_bytes entry.act → length history + 67 ≤ wider → StandsFor longer wider after more close
-StandsFor-next history longer entry capacity wider count more close parts after old allowed stays short is same sound few bytes wide =
-    let later : close ≡ closed_at (history ++ entry ∷ []) =
-    old.closed ∙ closed_at-open history allowed.open ∙ sym (closed_at-more history entry allowed.open stays) in
-    let there : present_count after.clients.items ≤ length after.clients.items = count_by-le-length (λ (there : Bool). there) after.clients.items in
-    let long : length (history ++ entry ∷ []) ≡ length history + 1 = simp length-append (omega arith) in
-    let enough : length (history ++ entry ∷ []) + present_count after.clients.items + 1 ≤ wider = omega (arith, sound.clients) in
-    let done = next history entry capacity wider count close close parts after old allowed same sound (steps_more history entry after short few) later (λ _. enough) in
-    rw (is, bytes) done
+    at_least : (rest : List Entry) → 256 * min (length history) 4194304 + 0 ≤ 256 * min (length (history ++ rest)) 4194304
+    at_least rest = simp length-append (omega arith)
 
--- a client goes, and its own place is the room for that
-pub StandsFor-leave : (history longer : List Entry) (client capacity wider count : ℕ) (close : Option ℕ) (parts after : Parts) →
-    StandsFor history capacity parts count close → Allows history (record { client = client; act = act.Leave }) →
-    longer ≡ history ++ record { client = client; act = act.Leave } ∷ [] →
-    state_from after ≡ (step (state_from parts) (record { client = client; act = act.Leave })).state → IsSound after →
-    after.world.threads ≡ parts.world.threads → capacity ≤ wider → StandsFor longer wider after count close
-StandsFor-leave history longer client capacity wider count close parts after old allowed is same sound threads wide =
-    let entry : Entry = record { client = client; act = act.Leave } in
-    let later : close ≡ closed_at (history ++ entry ∷ []) =
-    old.closed ∙ closed_at-open history allowed.open ∙ sym (closed_at-more history entry allowed.open refl) in
-    let none : close ≡ None = old.closed ∙ closed_at-open history allowed.open in
-    let room : length history + present_count parts.clients.items + 1 ≤ capacity = old.room none in
-    let long : length (history ++ entry ∷ []) ≡ length history + 1 = simp length-append (omega arith) in
-    let fewer : present_count after.clients.items + 1 ≡ present_count parts.clients.items =
-    ap (λ xs. present_count xs + 1) (ap (λ (s : State). s.clients) same)
-    ∙ fewer_present parts.clients.items client (ap (λ (s : State). slice_get s.clients client) old.state ∙ allowed.present) in
-    let enough : length (history ++ entry ∷ []) + present_count after.clients.items + 1 ≤ wider = omega arith in
-    let loose : 256 * min (length history) 4194304 ≤ 256 * min (length (history ++ entry ∷ [])) 4194304 = omega arith in
-    let few : StepsAtMost (256 * min (length (history ++ entry ∷ [])) 4194304) after.world.threads.items =
-    rw threads (StepsAtMost-weaker _ _ _ loose old.steps) in
-    let done = next history entry capacity wider count close close parts after old allowed same sound few later (λ _. enough) in
-    let bytes : count ≡ count + 0 = omega arith in
-    rw is (subst (λ (n : ℕ). StandsFor (history ++ entry ∷ []) wider after n close) (sym bytes) done)
+    within : (what : Act) → MayDo history client what → StepsAtMost (256 * min (length history) 4194304 + act_steps what) threads →
+        StepsAtMost (256 * min (length (history ++ record { client = client; act = what } ∷ [])) 4194304) threads
+    within (act.Turn thread steps) may h =
+        let short : length history < 4194304 = may.0 in
+        let long : length (history ++ record { client = client; act = act.Turn thread steps } ∷ []) ≡ length history + 1 = simp length-append (omega arith) in
+        let wide : 256 * min (length history) 4194304 + 256 ≤ 256 * min (length (history ++ record { client = client; act = act.Turn thread steps } ∷ [])) 4194304 = omega arith in
+        StepsAtMost-weaker _ _ _ wide h
+    within act.Enter may h = StepsAtMost-weaker _ _ _ (at_least _) h
+    within (act.Submit source) may h = StepsAtMost-weaker _ _ _ (at_least _) h
+    within (act.Collect run) may h = StepsAtMost-weaker _ _ _ (at_least _) h
+    within (act.Expire run steps) may h = absurd may
+    within (act.Stop run) may h = absurd may
+    within (act.Drop target) may h = absurd may
+    within (act.Ask question) may h = StepsAtMost-weaker _ _ _ (at_least _) h
+    within act.Reset may h = absurd may
+    within act.Leave may h = StepsAtMost-weaker _ _ _ (at_least _) h
+    within act.Close may h = StepsAtMost-weaker _ _ _ (at_least _) h
 
--- a close is the last entry
-pub StandsFor-close : (history longer : List Entry) (client capacity wider count : ℕ) (close : Option ℕ) (parts : Parts) →
-    StandsFor history capacity parts count close → Allows history (record { client = client; act = act.Close }) →
-    longer ≡ history ++ record { client = client; act = act.Close } ∷ [] → StandsFor longer wider parts count (Some (length history))
-StandsFor-close history longer client capacity wider count close parts old allowed is =
-    let entry : Entry = record { client = client; act = act.Close } in
-    let later : Some (length history) ≡ closed_at (history ++ entry ∷ []) = sym (closed_at-close history entry allowed.open refl) in
-    let long : length (history ++ entry ∷ []) ≡ length history + 1 = simp length-append (omega arith) in
-    let loose : 256 * min (length history) 4194304 ≤ 256 * min (length (history ++ entry ∷ [])) 4194304 = omega arith in
-    let few : StepsAtMost (256 * min (length (history ++ entry ∷ [])) 4194304) parts.world.threads.items = StepsAtMost-weaker _ _ _ loose old.steps in
-    let done = next history entry capacity wider count close (Some (length history)) parts parts old allowed refl old.sound few later (λ none. cc) in
-    let bytes : count ≡ count + 0 = omega arith in
-    rw is (subst (λ (n : ℕ). StandsFor (history ++ entry ∷ []) wider parts n (Some (length history))) (sym bytes) done)
+-- behind an entry the last ones find room: there is more, or the entry is itself one of them
+room-more : (history : List Entry) (client : ℕ) (what : Act) (capacity wider : ℕ) (before after : State) (close : Option ℕ) →
+    after ≡ (act_step before client what).state → slice_get before.clients client ≡ Some true → length after.clients ≤ 64 →
+    length history + present_count before.clients + 1 ≤ capacity → capacity ≤ wider →
+    (is_last what ≡ false → length history + entry_room ≤ wider) →
+    (if is_close what then Some (length history) else close) ≡ None →
+    length (history ++ record { client = client; act = what } ∷ []) + present_count after.clients + 1 ≤ wider
+room-more history client what capacity wider before after close is there few old wide enough none = within what is enough none
+  where
+    present : present_count after.clients ≤ length after.clients
+    present = count_by-le-length (λ (there : Bool). there) after.clients
 
--- where the threads stay, none has done a step more
-pub steps-quiet : (history : List Entry) (capacity count : ℕ) (close : Option ℕ) (parts after : Parts) → StandsFor history capacity parts count close →
-    after.world.threads ≡ parts.world.threads → StepsAtMost (256 * min (length history) 4194304 + 256) after.world.threads.items
-steps-quiet history capacity count close parts after old same =
-    let wide : 256 * min (length history) 4194304 ≤ 256 * min (length history) 4194304 + 256 = omega arith in
-    rw same (StepsAtMost-weaker _ _ _ wide old.steps)
+    roomy : (e : Entry) → length history + 66 ≤ wider → length (history ++ e ∷ []) + present_count after.clients + 1 ≤ wider
+    roomy e room =
+        let long : length (history ++ e ∷ []) ≡ length history + 1 = simp length-append (omega arith) in
+        omega (arith, long, present, few, room)
 
--- while no close stands there is room for an entry more
-pub room-open : (history : List Entry) (entry : Entry) (capacity count : ℕ) (close : Option ℕ) (parts : Parts) → StandsFor history capacity parts count close →
-    Allows history entry → length history + 1 ≤ capacity
-room-open history entry capacity count close parts old allowed =
-    let none : close ≡ None = old.closed ∙ closed_at-open history allowed.open in
-    let room : length history + present_count parts.clients.items + 1 ≤ capacity = old.room none in
-    omega arith
+    within : (what : Act) → after ≡ (act_step before client what).state → (is_last what ≡ false → length history + entry_room ≤ wider) →
+        (if is_close what then Some (length history) else close) ≡ None → length (history ++ record { client = client; act = what } ∷ []) + present_count after.clients + 1 ≤ wider
+    within act.Leave is enough none =
+        let long : length (history ++ record { client = client; act = act.Leave } ∷ []) ≡ length history + 1 = simp length-append (omega arith) in
+        let fewer : present_count after.clients + 1 ≡ present_count before.clients =
+        ap (λ (s : State). present_count s.clients + 1) is ∙ fewer_present before.clients client there in
+        omega (arith, long, fewer, old, wide)
+    within act.Close is enough none = cc
+    within act.Enter is enough none = roomy _ (enough refl)
+    within (act.Submit source) is enough none = roomy _ (enough refl)
+    within (act.Turn thread steps) is enough none = roomy _ (enough refl)
+    within (act.Collect run) is enough none = roomy _ (enough refl)
+    within (act.Expire run steps) is enough none = roomy _ (enough refl)
+    within (act.Stop run) is enough none = roomy _ (enough refl)
+    within (act.Drop target) is enough none = roomy _ (enough refl)
+    within (act.Ask question) is enough none = roomy _ (enough refl)
+    within act.Reset is enough none = roomy _ (enough refl)
+
+-- an entry more, whose act was done
+pub StandsFor-next : (log longer : Log) (client : ℕ) (what : Act) (parts after : Parts) (reply : Reply) → StandsFor log parts →
+    Allows log.history.items (record { client = client; act = what }) → IsLonger log longer (record { client = client; act = what }) →
+    IsDone parts after client what reply → (is_last what ≡ false → length log.history.items + entry_room ≤ vec_capacity log.history) → StandsFor longer after
+StandsFor-next log longer client what parts after reply old allowed more done enough =
+    let entry : Entry = record { client = client; act = what } in
+    let history : List Entry = log.history.items in
+    let is : state_from after ≡ (step (state_from parts) entry).state = ap (λ (s : Stepped). s.state) done.step in
+    let none : log.closed ≡ None = old.closed ∙ closed_at-open history allowed.open in
+    let roomy : (is_last what ≡ false → length history + entry_room ≤ vec_capacity longer.history) =
+    λ plain. (let room : length history + 66 ≤ vec_capacity log.history = enough plain in omega (arith, room, more.capacity)) in
+    let there : slice_get parts.clients.items client ≡ Some true = ap (λ (s : State). slice_get s.clients client) old.state ∙ allowed.present in
+    record {
+      legal = subst (λ (h : List Entry). IsLegal h) (sym more.items) (IsLegal-more history entry old.legal allowed);
+      state = is ∙ ap (λ (s : State). (step s entry).state) old.state ∙ sym (state_after-more opening history entry) ∙ sym (ap state_of more.items);
+      sound = done.sound;
+      steps = subst (λ (h : List Entry). StepsAtMost (most_steps * min (length h) most_entries) after.world.threads.items) (sym more.items)
+          (steps-more history client what after.world.threads.items allowed.may (done.steps _ old.steps));
+      bytes = more.bytes ∙ ap (λ n. n + act_bytes what) old.bytes ∙ sym (source_bytes-more history entry) ∙ sym (ap source_bytes more.items);
+      closed = more.closed ∙ ap (λ (c : Option ℕ). if is_close what then Some (length history) else c) none ∙ sym (closed_at-more history entry allowed.open) ∙ sym (ap closed_at more.items);
+      room = λ later. subst (λ (h : List Entry). length h + present_count after.clients.items + 1 ≤ vec_capacity longer.history) (sym more.items)
+          (room-more history client what (vec_capacity log.history) (vec_capacity longer.history) (state_from parts) (state_from after) log.closed is there done.sound.clients
+          (old.room none) more.capacity roomy (sym more.closed ∙ later));
+    }
+
+-- there is room for an entry, or it was left for it
+pub room-for : (log roomy : Log) (parts : Parts) (entry : Entry) → StandsFor log parts → Allows log.history.items entry → roomy.history.items ≡ log.history.items →
+    vec_capacity log.history ≤ vec_capacity roomy.history → (is_last entry.act ≡ false → length log.history.items + entry_room ≤ vec_capacity roomy.history) →
+    length roomy.history.items + 1 ≤ vec_capacity roomy.history
+room-for log roomy parts entry old allowed items wide enough =
+    subst (λ (h : List Entry). length h + 1 ≤ vec_capacity roomy.history) (sym items) (from (is_last entry.act) refl)
+  where
+    from : (last : Bool) → is_last entry.act ≡ last → length log.history.items + 1 ≤ vec_capacity roomy.history
+    from true is =
+        let room : length log.history.items + present_count parts.clients.items + 1 ≤ vec_capacity log.history =
+        old.room (old.closed ∙ closed_at-open log.history.items allowed.open) in
+        omega arith
+    from false is =
+        let room : length log.history.items + 66 ≤ vec_capacity roomy.history = enough is in
+        omega arith
 
 -- a turn of fewer steps is allowed too
 pub Allows-fewer : (history : List Entry) (client thread steps fewer : ℕ) → Allows history (record { client = client; act = act.Turn thread steps }) →
@@ -206,32 +230,3 @@ pub Allows-fewer : (history : List Entry) (client thread steps fewer : ℕ) → 
 Allows-fewer history client thread steps fewer allowed some few =
     let most : steps ≤ 256 = allowed.may.2 in
     record { present = allowed.present; «open» = allowed.open; may = (allowed.may.0, some, omega arith) }
-
--- what a turn leaves fits together
-pub IsSound-turned : (parts : Parts) (after : WorldParts) (book : List Record) → IsSound parts → book ≡ parts.book.items → IsWorld after (length book) →
-    IsSound (record parts { world = after })
-IsSound-turned parts after book sound is world = record {
-  world = subst (λ (xs : List Record). IsWorld after (length xs)) is world;
-  generation = sound.generation;
-  book = sound.book;
-  clients = sound.clients;
-}
-
--- what a turn leaves stands for the step of its entry
-pub state-turned : (parts : Parts) (after : WorldParts) (book : List Record) (client thread steps : ℕ) → book ≡ parts.book.items →
-    world_of after ≡ (turned book thread steps (world_of parts.world)).world →
-    state_from (record parts { world = after }) ≡ (step (state_from parts) (record { client = client; act = act.Turn thread steps })).state
-state-turned parts after book client thread steps is world =
-    ap (λ (w : World). record (state_from parts) { world = w }) (world ∙ ap (λ (xs : List Record). (turned xs thread steps (world_of parts.world)).world) is)
-
--- a turn is kept with at least a step, and no more than were asked for
-pub kept_within : (asked done kept : ℕ) → kept ≡ (if done == 0 then asked else done) → 1 ≤ asked → done ≤ asked → (1 ≤ kept) × (kept ≤ asked)
-kept_within asked done kept is some few = from (done == 0) refl is
-  where
-    nonzero : (n : ℕ) → (n == 0) ≡ false → 1 ≤ n
-    nonzero zero e = cc
-    nonzero (suc n) e = omega arith
-
-    from : (none : Bool) → (done == 0) ≡ none → kept ≡ (if none then asked else done) → (1 ≤ kept) × (kept ≤ asked)
-    from true e same = let all : kept ≡ asked = same in (omega arith, omega arith)
-    from false e same = let all : kept ≡ done = same in let more : 1 ≤ done = nonzero done e in (omega arith, omega arith)

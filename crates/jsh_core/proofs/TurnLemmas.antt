@@ -2,7 +2,7 @@
 use Rattle.std.proofs.Common.{◌≡◌, ℕ, suc, zero, ◌+◌, ◌-◌, ◌≤◌, Bool, true, false, List, refl, ap, ◌∙◌, sym, subst, arith, add-zero, add-one, zero-add, Some, ◌==◌, if◌then◌else◌}
 use Rattle.std.proofs.Math.Nat.{le_refl}
 use Rattle.std.specs.Fmt.{signed_decimal}
-use Rattle.jsh_tree.specs.declared.tree.Sum.{Sum}
+use Rattle.jsh_sum.specs.declared.sums.Sum.{Sum}
 use Rattle.jsh_snippet.specs.declared.records.Record.{Record}
 use Rattle.jsh_sum.specs.Sum.{value_of}
 use Rattle.jsh_core.specs.declared.world.Thread.{Thread}

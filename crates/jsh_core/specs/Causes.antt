@@ -1,6 +1,5 @@
 -- The causes of the answers, both ways: what stands before an act, and what is answered to it.
 use Rattle.std.specs.Prelude.{◌≡◌, ◌≢◌, ◌↔◌, ℕ, zero, suc, ◌+◌, ◌<◌, ◌≤◌, true, false, List, [], ◌∷◌, length, None, Some}
-use Rattle.jsh_tree.specs.declared.tree.Sum.{Sum}
 use Rattle.jsh_tree.specs.declared.diagnostic.Diagnostic.{Diagnostic}
 use Rattle.jsh_snippet.specs.declared.acts.Act.{Act}
 use Rattle.jsh_snippet.specs.declared.acts.Act.TheVariants as act
@@ -11,23 +10,25 @@ use Rattle.jsh_snippet.specs.declared.records.Record.{Record}
 use Rattle.jsh_snippet.specs.declared.replies.ReplyBody.{ReplyBody}
 use Rattle.jsh_snippet.specs.declared.replies.ReplyBody.TheVariants as body
 use Rattle.jsh_snippet.specs.declared.replies.Collected.TheVariants as «collected»
-use Rattle.jsh_snippet.specs.declared.replies.Outcome.TheVariants as outcome
+use Rattle.jsh_snippet.specs.declared.replies.Outcome.{Outcome}
 use Rattle.jsh_snippet.specs.declared.replies.Refusal.TheVariants as refusal
 use Rattle.jsh_snippet.specs.declared.replies.LimitKind.TheVariants as limit
 use Rattle.jsh_verdict.specs.Causes.{IsAccepted, IsRejected}
+use Rattle.jsh_sum.specs.declared.sums.Sum.{Sum}
 use Rattle.jsh_core.specs.declared.world.Run.{Run}
 use Rattle.jsh_core.specs.declared.world.RunView.{RunView}
+use Rattle.jsh_core.specs.Limits.{most_clients, most_records, most_threads}
 use Rattle.jsh_core.specs.State.{State, World, numbered}
 use Rattle.jsh_core.specs.Snippets.{accepted_reply, rejected_reply, alive_count, temporary_name}
 use Rattle.jsh_core.specs.Threads.{can_go_on, stepped}
-use Rattle.jsh_core.specs.Runs.{returned_text, run_view, steps_so_far}
+use Rattle.jsh_core.specs.Runs.{is_thread_alive, outcome_of, run_view, steps_so_far}
 use Rattle.jsh_core.specs.Questions.{invalid_line}
 use Rattle.jsh_core.specs.Step.{step}
 
 -- a client is numbered below the limit alone
 pub record CausesOfEnter (s : State) (answered : ReplyBody) : Type 0 where
-  pub entered : (answered ≡ body.Entered (length s.clients)) ↔ (length s.clients < 64)
-  pub clients : (answered ≡ body.Refused (refusal.Limit limit.Clients 64)) ↔ (64 ≤ length s.clients)
+  pub entered : (answered ≡ body.Entered (length s.clients)) ↔ (length s.clients < most_clients)
+  pub clients : (answered ≡ body.Refused (refusal.Limit limit.Clients most_clients)) ↔ (most_clients ≤ length s.clients)
 
 -- the source is accepted with some sum
 abbrev pub IsSum : List ℕ → Type 0
@@ -35,13 +36,13 @@ IsSum source = (sum : Sum) × IsAccepted source sum
 
 -- a snippet is accepted where it is a sum and stands below both limits, and is rejected with what is wrong with it
 pub record CausesOfSubmit (s : State) (source : List ℕ) (answered : ReplyBody) : Type 0 where
-  pub records : (answered ≡ body.Refused (refusal.Limit limit.Records 16384)) ↔ (16384 ≤ length s.book)
+  pub records : (answered ≡ body.Refused (refusal.Limit limit.Records most_records)) ↔ (most_records ≤ length s.book)
   pub rejected : (ds : List Diagnostic) →
-      (answered ≡ body.Submitted (rejected_reply (length s.book + 1) ds)) ↔ ((length s.book < 16384) × IsRejected source ds)
-  pub threads : (answered ≡ body.Refused (refusal.Limit limit.Threads 256))
-      ↔ ((length s.book < 16384) × IsSum source × (256 ≤ alive_count s))
+      (answered ≡ body.Submitted (rejected_reply (length s.book + 1) ds)) ↔ ((length s.book < most_records) × IsRejected source ds)
+  pub threads : (answered ≡ body.Refused (refusal.Limit limit.Threads most_threads))
+      ↔ ((length s.book < most_records) × IsSum source × (most_threads ≤ alive_count s))
   pub accepted : (answered ≡ body.Submitted (accepted_reply (length s.book + 1) (length s.world.runs + 1)))
-      ↔ ((length s.book < 16384) × IsSum source × (alive_count s < 256))
+      ↔ ((length s.book < most_records) × IsSum source × (alive_count s < most_threads))
 
 -- the world after so many visible steps of a thread
 unfoldable pub world_after : List Record → ℕ → ℕ → World → World
@@ -74,14 +75,14 @@ pub record IsOwnRun (s : State) (client number : ℕ) (run : Run) : Type 0 where
   pub there : run.gone ≡ false
   pub owner : run.owner ≡ client
 
--- a run is answered for where it is there and the client's own, and is handed out once its main thread has returned a text
+-- a run is answered for where it is there and the client's own, and is handed out once its main thread isn't alive
 pub record CausesOfCollect (s : State) (client number : ℕ) (answered : ReplyBody) : Type 0 where
   pub no_such_run : (answered ≡ body.Refused (refusal.NoSuchRun number)) ↔ (run_view s number ≡ None)
   pub not_owner : (owner : ℕ) → (answered ≡ body.Refused (refusal.NotOwner owner)) ↔ ((owner ≢ client) × IsOwner s owner number)
   pub running : (steps : ℕ) → (answered ≡ body.Collected («collected».Running steps))
-      ↔ ((run : Run) × IsOwnRun s client number run × (returned_text s.world run ≡ None) × (steps_so_far s.world run ≡ steps))
-  pub over : (id : ℕ) → (text : List ℕ) → (answered ≡ body.Collected («collected».Over id (temporary_name id) (outcome.Value text)))
-      ↔ ((run : Run) × IsOwnRun s client number run × (returned_text s.world run ≡ Some text) × (run.snippet ≡ id))
+      ↔ ((run : Run) × IsOwnRun s client number run × (is_thread_alive s.world run.main ≡ true) × (steps_so_far s.world run ≡ steps))
+  pub over : (id : ℕ) → (ended : Outcome) → (answered ≡ body.Collected («collected».Over id (temporary_name id) ended))
+      ↔ ((run : Run) × IsOwnRun s client number run × (is_thread_alive s.world run.main ≡ false) × (run.snippet ≡ id) × (outcome_of s.world run ≡ ended))
 
 -- a question is answered, whatever stands. The others than that about a line that is no command aren't built yet.
 abbrev pub CausesOfAsk : Question → ReplyBody → Type 0

@@ -3,12 +3,13 @@ use Rattle.std.specs.Prelude.{ℕ, [], ◌∷◌, ◌++◌, length, true, false,
 use Rattle.jsh_snippet.specs.declared.replies.ReplyBody.TheVariants as body
 use Rattle.jsh_snippet.specs.declared.replies.Refusal.TheVariants as refusal
 use Rattle.jsh_snippet.specs.declared.replies.LimitKind.TheVariants as limit
+use Rattle.jsh_core.specs.Limits.{most_clients}
 use Rattle.jsh_core.specs.State.{State, Stepped, answer, refuses}
 use Rattle.jsh_core.specs.Runs.{stopped, dropped}
 
 -- a further client gets the next number, up to a limit
 abbrev pub enter : State → Stepped
-enter s = if nat_le 64 (length s.clients) then refuses s (refusal.Limit limit.Clients 64)
+enter s = if nat_le most_clients (length s.clients) then refuses s (refusal.Limit limit.Clients most_clients)
     else record { state = record s { clients = s.clients ++ true ∷ [] }; reply = answer (body.Entered (length s.clients)) }
 
 -- a client goes: its threads are stopped and its runs dropped

@@ -1,11 +1,13 @@
 -- Histories: the lists of entries that an engine may have, and what they come to.
 use Rattle.std.specs.Prelude.{◌≡◌, ℕ, ◌+◌, ◌<◌, ◌≤◌, List, [], ◌∷◌, ◌++◌, Option, Some, Bool, true, false, length, slice_get, sum_by, position}
 use Rattle.std.specs.List.{list_any}
+use Rattle.jsh_tree.specs.Text.{most_source}
 use Rattle.jsh_snippet.specs.declared.acts.Act.{Act}
 use Rattle.jsh_snippet.specs.declared.acts.Act.TheVariants as act
 use Rattle.jsh_snippet.specs.declared.acts.Entry.{Entry}
 use Rattle.jsh_snippet.specs.declared.acts.Question.TheVariants as question
 use Rattle.jsh_snippet.specs.declared.replies.Reply.{Reply}
+use Rattle.jsh_core.specs.Limits.{most_bytes, most_entries, most_steps}
 use Rattle.jsh_core.specs.State.{State, opening}
 use Rattle.jsh_core.specs.Step.{step}
 use Rattle.jsh_core.specs.Questions.{question_bytes}
@@ -46,18 +48,18 @@ closed_at history = position (λ (entry : Entry). is_close entry.act) history
 
 -- a history has at most so many entries, and behind them leaves and a close
 abbrev pub HasRoom : List Entry → Type 0
-HasRoom history = length history < 4194304
+HasRoom history = length history < most_entries
 
 -- a history has room for an entry with this text
 abbrev pub HasRoomFor : List Entry → List ℕ → Type 0
 HasRoomFor history text =
-    HasRoom history × (length text ≤ 65536) × (source_bytes history + length text ≤ 67108864)
+    HasRoom history × (length text ≤ most_source) × (source_bytes history + length text ≤ most_bytes)
 
 -- the acts that a client may do after a history
 abbrev pub MayDo : List Entry → ℕ → Act → Type 0
 MayDo history client act.Enter = HasRoom history
 MayDo history client (act.Submit source) = HasRoomFor history source
-MayDo history client (act.Turn thread steps) = HasRoom history × (1 ≤ steps) × (steps ≤ 256)
+MayDo history client (act.Turn thread steps) = HasRoom history × (1 ≤ steps) × (steps ≤ most_steps)
 MayDo history client (act.Collect run) = HasRoom history
 MayDo history client (act.Ask (question.Invalid text)) = HasRoomFor history text
 MayDo history client act.Leave = Unit {0}

@@ -1,3 +1,4 @@
+pub mod Limits
 pub mod State
 pub mod Parts
 pub mod Snippets
@@ -8,5 +9,7 @@ pub mod Questions
 pub mod Step
 pub mod Causes
 pub mod Fates
+pub mod Fresh
 pub mod History
+pub mod Acts
 pub mod Stands

@@ -5,6 +5,7 @@ use Rattle.jsh_sched.specs.ThreadState.{is_alive}
 use Rattle.jsh_core.specs.declared.world.Thread.{Thread}
 use Rattle.jsh_core.specs.declared.parts.WorldParts.{WorldParts}
 use Rattle.jsh_core.specs.declared.parts.Parts.{Parts}
+use Rattle.jsh_core.specs.Limits.{most_clients, most_records}
 use Rattle.jsh_core.specs.State.{State, World}
 
 abbrev pub world_of : WorldParts → World
@@ -26,8 +27,8 @@ pub record IsWorld (w : WorldParts) (records : ℕ) : Type 0 where
 pub record IsSound (p : Parts) : Type 0 where
   pub world : IsWorld p.world (length p.book.items)
   pub generation : p.generation ≤ length p.book.items
-  pub book : length p.book.items ≤ 16384
-  pub clients : length p.clients.items ≤ 64
+  pub book : length p.book.items ≤ most_records
+  pub clients : length p.clients.items ≤ most_clients
 
 -- no thread has done more steps than this
 pub record StepsAtMost (bound : ℕ) (threads : List Thread) : Type 0 where

@@ -12,6 +12,11 @@ use Rattle.jsh_core.specs.State.{State, Stepped, answer}
 abbrev pub invalid_line : List ℕ → Line
 invalid_line line = record { text = codes "|  Invalid command: " ++ utf16 (chars line) }
 
+-- the questions that are answered so far
+abbrev pub IsAnswered : Question → Type 0
+IsAnswered (question.Invalid line) = Unit {0}
+IsAnswered _ = ⊥
+
 -- The lines that answer a question. The others aren't built yet, and stand in no history.
 abbrev pub answer_lines : Question → List Line
 answer_lines (question.Invalid line) = invalid_line line ∷ []

@@ -2,8 +2,8 @@
 use Rattle.std.specs.Prelude.{ℕ, ◌-◌, ◌==◌, List, Option, None, Some, Bool, true, false, not, ◌&&◌, if◌then◌else◌, slice_set, [], ◌∷◌}
 use Rattle.std.specs.Option.{option_and_then, option_map_or}
 use Rattle.jsh_snippet.specs.declared.replies.ReplyBody.TheVariants as body
-use Rattle.jsh_snippet.specs.declared.replies.Collected.{Collected}
 use Rattle.jsh_snippet.specs.declared.replies.Collected.TheVariants as «collected»
+use Rattle.jsh_snippet.specs.declared.replies.Outcome.{Outcome}
 use Rattle.jsh_snippet.specs.declared.replies.Outcome.TheVariants as outcome
 use Rattle.jsh_snippet.specs.declared.replies.Refusal.TheVariants as refusal
 use Rattle.jsh_sched.specs.declared.ThreadState.{ThreadState}
@@ -15,6 +15,10 @@ use Rattle.jsh_core.specs.declared.world.RunView.{RunView}
 use Rattle.jsh_core.specs.State.{State, World, Stepped, answer, refuses, numbered}
 use Rattle.jsh_core.specs.Snippets.{temporary_name}
 
+-- whether the thread with this number is alive
+abbrev pub is_thread_alive : World → ℕ → Bool
+is_thread_alive w number = option_map_or is_alive (numbered w.states number) false
+
 -- the text that the main thread of a run has returned
 abbrev pub returned_text : World → Run → Option (List ℕ)
 returned_text w run = option_and_then (λ (t : Thread). t.returned) (numbered w.threads run.main)
@@ -23,23 +27,28 @@ returned_text w run = option_and_then (λ (t : Thread). t.returned) (numbered w.
 abbrev pub steps_so_far : World → Run → ℕ
 steps_so_far w run = option_map_or (λ (t : Thread). t.steps) (numbered w.threads run.main) 0
 
--- how it stands with a run whose main thread has returned this, or hasn't returned
-abbrev pub standing : World → Run → Option (List ℕ) → Collected
-standing w run None = «collected».Running (steps_so_far w run)
-standing w run (Some text) = «collected».Over run.snippet (temporary_name run.snippet) (outcome.Value text)
+-- how a thread of this owner has ended: with the text that it has returned, or else with its owner, who stopped it and left
+abbrev pub ended_with : ℕ → Option (List ℕ) → Outcome
+ended_with owner (Some text) = outcome.Value text
+ended_with owner None = outcome.Stopped owner
 
--- a run that is over can be collected once
-abbrev pub handed_out : List Run → ℕ → Run → Option (List ℕ) → List Run
-handed_out runs number run None = runs
-handed_out runs number run (Some text) = slice_set runs (number - 1) (record run { gone = true })
+-- how a run has ended whose main thread isn't alive
+abbrev pub outcome_of : World → Run → Outcome
+outcome_of w run = ended_with run.owner (returned_text w run)
+
+-- a run goes on while its main thread is alive
+abbrev pub runs_on : State → Run → Stepped
+runs_on s run = record { state = s; reply = answer (body.Collected («collected».Running (steps_so_far s.world run))) }
+
+-- a run that is over is handed out, and can't be collected again
+abbrev pub handed_out : State → ℕ → Run → Stepped
+handed_out s number run = record {
+  state = record s { world = record s.world { runs = slice_set s.world.runs (number - 1) (record run { gone = true }) } };
+  reply = answer (body.Collected («collected».Over run.snippet (temporary_name run.snippet) (outcome_of s.world run)));
+}
 
 abbrev pub own_run : State → ℕ → Run → Stepped
-own_run s number run =
-    let text = returned_text s.world run in
-    record {
-      state = record s { world = record s.world { runs = handed_out s.world.runs number run text } };
-      reply = answer (body.Collected (standing s.world run text));
-    }
+own_run s number run = if is_thread_alive s.world run.main then runs_on s run else handed_out s number run
 
 abbrev pub collect_run : State → ℕ → ℕ → Option Run → Stepped
 collect_run s client number None = refuses s (refusal.NoSuchRun number)
@@ -51,10 +60,6 @@ collect_run s client number (Some run) =
 -- The outcome of a run is asked for: it has to be there, and to be the client's own.
 abbrev pub collect : State → ℕ → ℕ → Stepped
 collect s client number = collect_run s client number (numbered s.world.runs number)
-
--- whether the thread with this number is alive
-abbrev pub is_thread_alive : World → ℕ → Bool
-is_thread_alive w number = option_map_or is_alive (numbered w.states number) false
 
 abbrev pub view_of : World → Run → Option RunView
 view_of w run = if run.gone then None

@@ -1,7 +1,6 @@
 -- What a snippet is, and what its submission changes.
 use Rattle.std.specs.Prelude.{ℕ, ◌+◌, List, [], ◌∷◌, ◌++◌, Option, None, Some, length, true, false, if◌then◌else◌, nat_le, pos, codes, decimal}
 use Rattle.std.specs.List.{count_by}
-use Rattle.jsh_tree.specs.declared.tree.Sum.{Sum}
 use Rattle.jsh_tree.specs.declared.diagnostic.Diagnostic.{Diagnostic}
 use Rattle.jsh_text.specs.declared.value.Value.TheVariants as value
 use Rattle.jsh_snippet.specs.declared.kinds.Kind.TheVariants as kind
@@ -19,15 +18,16 @@ use Rattle.jsh_sched.specs.declared.ThreadState.TheVariants as thread_state
 use Rattle.jsh_sched.specs.ThreadState.{is_alive}
 use Rattle.jsh_verdict.specs.declared.verdict.Verdict.{Verdict}
 use Rattle.jsh_verdict.specs.declared.verdict.Verdict.TheVariants.{Accepted, Rejected}
-use Rattle.jsh_verdict.specs.Verdict.{verdict}
+use Rattle.jsh_verdict.specs.Verdict.{tree_of, verdict}
+use Rattle.jsh_core.specs.Limits.{most_records, most_threads}
 use Rattle.jsh_core.specs.State.{State, Stepped, answer, refuses}
 
 -- the record of a snippet that is accepted, a temporary variable of type int
-abbrev pub accepted_record : ℕ → List ℕ → Sum → Record
-accepted_record id source sum = record {
+abbrev pub accepted_record : ℕ → List ℕ → Record
+accepted_record id source = record {
   id = id;
   source = source;
-  sum = Some sum;
+  tree = tree_of source;
   fixed = Some (record { name = codes "int"; dims = 0 });
   kind = Some kind.Var;
   fate = fate.Live;
@@ -36,7 +36,7 @@ accepted_record id source sum = record {
 -- the record of a snippet that is rejected
 abbrev pub rejected_record : ℕ → List ℕ → Record
 rejected_record id source =
-    record { id = id; source = source; sum = None; fixed = None; kind = Some kind.Erroneous; fate = fate.Rejected }
+    record { id = id; source = source; tree = tree_of source; fixed = None; kind = Some kind.Erroneous; fate = fate.Rejected }
 
 -- the name of a temporary variable: `$` and its snippet's number
 abbrev pub temporary_name : ℕ → List ℕ
@@ -108,14 +108,14 @@ rejected s source diagnostics =
     }
 
 -- an accepted one publishes a generation, and has a variable and a run, whose main thread is new
-abbrev pub accepted : State → ℕ → List ℕ → Sum → Stepped
-accepted s client source sum =
+abbrev pub accepted : State → ℕ → List ℕ → Stepped
+accepted s client source =
     let id = length s.book + 1 in
     let main = length s.world.threads + 1 in
     let run = length s.world.runs + 1 in
     record {
       state = record s {
-        book = s.book ++ accepted_record id source sum ∷ [];
+        book = s.book ++ accepted_record id source ∷ [];
         generation = s.generation + 1;
         world = record {
           cells = s.world.cells ++ Some (value.Int (pos 0)) ∷ [];
@@ -137,18 +137,18 @@ abbrev pub alive_count : State → ℕ
 alive_count s = count_by is_alive s.world.states
 
 -- an accepted snippet wants a thread
-abbrev pub accepted_below_limit : State → ℕ → List ℕ → Sum → Stepped
-accepted_below_limit s client source sum =
-    if nat_le 256 (alive_count s) then refuses s (refusal.Limit limit.Threads 256) else accepted s client source sum
+abbrev pub accepted_below_limit : State → ℕ → List ℕ → Stepped
+accepted_below_limit s client source =
+    if nat_le most_threads (alive_count s) then refuses s (refusal.Limit limit.Threads most_threads) else accepted s client source
 
 abbrev pub judged : State → ℕ → List ℕ → Verdict → Stepped
-judged s client source (Accepted sum) = accepted_below_limit s client source sum
+judged s client source (Accepted sum) = accepted_below_limit s client source
 judged s client source (Rejected diagnostics) = rejected s source diagnostics
 
 -- a snippet that is handed in: there is a limit of records, and for one that is accepted a limit of alive threads
 abbrev pub submitted : State → ℕ → List ℕ → Stepped
 submitted s client source =
-    if nat_le 16384 (length s.book) then refuses s (refusal.Limit limit.Records 16384)
+    if nat_le most_records (length s.book) then refuses s (refusal.Limit limit.Records most_records)
     else judged s client source (verdict source)
 
 -- the run that a submitted snippet has

@@ -39,19 +39,15 @@ abbrev pub done_steps : ℕ → ReplyBody → ℕ
 done_steps asked (body.Turned steps) = if steps == 0 then asked else steps
 done_steps asked _ = asked
 
+-- an act with so many steps, where it is a turn
+abbrev pub act_with_steps : Act → ℕ → Act
+act_with_steps (act.Turn thread asked) steps = act.Turn thread steps
+act_with_steps what steps = what
+
 -- an act as the history keeps it: a turn with the steps that it has done
 abbrev pub kept_act : Act → ReplyBody → Act
-kept_act act.Enter reply = act.Enter
-kept_act (act.Submit source) reply = act.Submit source
-kept_act (act.Turn thread steps) reply = act.Turn thread (done_steps steps reply)
-kept_act (act.Collect run) reply = act.Collect run
-kept_act (act.Expire run steps) reply = act.Expire run steps
-kept_act (act.Stop run) reply = act.Stop run
-kept_act (act.Drop target) reply = act.Drop target
-kept_act (act.Ask question) reply = act.Ask question
-kept_act act.Reset reply = act.Reset
-kept_act act.Leave reply = act.Leave
-kept_act act.Close reply = act.Close
+kept_act (act.Turn thread asked) reply = act.Turn thread (done_steps asked reply)
+kept_act what reply = what
 
 abbrev pub kept : Entry → Reply → Entry
 kept entry reply = record entry { act = kept_act entry.act reply.body }

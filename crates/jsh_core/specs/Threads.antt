@@ -1,14 +1,17 @@
 -- What the visible steps of a thread do.
 use Rattle.std.specs.Prelude.{ℕ, ◌+◌, ◌-◌, ◌==◌, zero, suc, List, Option, None, Some, Bool, false, if◌then◌else◌, slice_set, ℤ}
-use Rattle.std.specs.Option.{option_and_then, option_map_or}
+use Rattle.std.specs.Option.{option_and_then, option_map, option_map_or}
 use Rattle.std.specs.Fmt.{signed_decimal}
-use Rattle.jsh_tree.specs.declared.tree.Sum.{Sum}
+use Rattle.jsh_tree.specs.declared.tree.Tree.{Tree}
 use Rattle.jsh_text.specs.declared.value.Value.TheVariants as value
 use Rattle.jsh_snippet.specs.declared.records.Record.{Record}
 use Rattle.jsh_snippet.specs.declared.replies.ReplyBody.TheVariants as body
 use Rattle.jsh_sched.specs.declared.ThreadState.TheVariants as thread_state
 use Rattle.jsh_sched.specs.ThreadState.{is_ready}
+use Rattle.jsh_sum.specs.declared.reading.Reading.{Reading}
+use Rattle.jsh_sum.specs.declared.sums.Sum.{Sum}
 use Rattle.jsh_sum.specs.Sum.{value_of}
+use Rattle.jsh_sum.specs.Reading as reading
 use Rattle.jsh_core.specs.declared.world.Thread.{Thread}
 use Rattle.jsh_core.specs.declared.world.Frame.{Frame}
 use Rattle.jsh_core.specs.State.{State, World, Stepped, answer, numbered}
@@ -36,9 +39,17 @@ performed w number thread frame (Returns text) = record w {
   threads = slice_set w.threads (number - 1) (record thread { steps = thread.steps + 1; frame = None; returned = Some text });
 }
 
+-- the sum that a tree is evaluated as, if it is one
+abbrev pub sum_in : Tree → Option Sum
+sum_in tree = option_map (λ (r : Reading). r.sum) (reading.sum_of tree)
+
+-- the sum of a record: that of its tree
+abbrev pub sum_of_record : Record → Option Sum
+sum_of_record r = option_and_then sum_in r.tree
+
 -- the sum of the snippet with this number
 abbrev pub sum_of : List Record → ℕ → Option Sum
-sum_of book id = option_and_then (λ (r : Record). r.sum) (numbered book id)
+sum_of book id = option_and_then sum_of_record (numbered book id)
 
 abbrev pub body_step : World → ℕ → Thread → Frame → Option Sum → World
 body_step w number thread frame None = w

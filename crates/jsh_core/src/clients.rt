@@ -6,6 +6,7 @@ ghost use Rattle.jsh_core.specs.Clients.{enter, leave};
 ghost use Rattle.jsh_core.specs.Runs.{dropped, stopped};
 ghost use Rattle.jsh_core.specs.Parts.{state_from, IsSound};
 
+use crate::limits::MOST_CLIENTS;
 use crate::lists::push_reserved;
 use crate::parts::Parts;
 use crate::snippets::{answer_of, refused};
@@ -14,9 +15,6 @@ use jsh_sched::ThreadState;
 use jsh_snippet::{LimitKind, Refusal, Reply, ReplyBody};
 use jsh_text::NoMemory;
 use std::alloc::Global;
-
-/// Clients that were numbered, client 0 included.
-pub const MAX_CLIENTS: usize = 64;
 
 /// A further client gets the next number.
 pub fn number_client(parts: &mut Parts, alloc: Global) -> Result<Reply, NoMemory>
@@ -27,12 +25,12 @@ pub fn number_client(parts: &mut Parts, alloc: Global) -> Result<Reply, NoMemory
     ensures threads { parts.new.world.threads ≡ parts.old.world.threads }
 {
     let number = parts.clients.len();
-    if number >= MAX_CLIENTS {
+    if number >= MOST_CLIENTS {
         return Ok(refused(
             alloc,
             Refusal::Limit {
                 which: LimitKind::Clients,
-                count: MAX_CLIENTS as u64,
+                count: MOST_CLIENTS as u64,
             },
         ));
     }

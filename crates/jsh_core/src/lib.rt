@@ -1,9 +1,12 @@
 //! The one-thread engine: a history of entries, and what they come to.
 #![tactic(auto)]
 
+mod acts;
 mod clients;
 mod engine;
+mod limits;
 mod lists;
+mod log;
 mod parts;
 mod questions;
 mod runs;
@@ -12,4 +15,5 @@ mod turns;
 mod world;
 
 pub use engine::Core;
+pub use limits::{MOST_BYTES, MOST_CLIENTS, MOST_ENTRIES, MOST_RECORDS, MOST_STEPS, MOST_THREADS};
 pub use world::RunView;

@@ -1,6 +1,7 @@
 ghost use Rattle.std.specs.Prelude.{◌≡◌, ◌+◌, ◌<◌, ◌∷◌, ◌++◌, [], pos, false, None, Some, OnOk, vec_len, vec_capacity};
 ghost use Rattle.jsh_text.specs.declared.value.Value.TheVariants as value;
 ghost use Rattle.jsh_sched.specs.declared.ThreadState.TheVariants as thread_state;
+ghost use Rattle.jsh_core.specs.Limits.{most_threads};
 ghost use Rattle.jsh_core.specs.Parts.{world_of};
 
 use crate::lists::push_reserved;
@@ -10,7 +11,7 @@ use jsh_snippet::Record;
 use jsh_text::{NoMemory, Value};
 
 /// What the one-thread engine keeps beside its history.
-#[derive(Debug, Drop)]
+#[derive(Drop)]
 pub struct Parts {
     pub book: Vec<Record>,
     /// The number of the published generation.
@@ -21,7 +22,7 @@ pub struct Parts {
 }
 
 /// What snippets work on while they run.
-#[derive(Debug, Drop)]
+#[derive(Drop)]
 pub struct WorldParts {
     /// For each record, the value of the variable that it declares, if it declares one.
     pub cells: Vec<Option<Value>>,
@@ -56,7 +57,7 @@ pub fn add_run(world: &mut WorldParts, client: u32, snippet: u32, main: u32)
     requires states { vec_len world.old.states < vec_capacity world.old.states }
     requires threads { vec_len world.old.threads < vec_capacity world.old.threads }
     requires runs { vec_len world.old.runs < vec_capacity world.old.runs }
-    requires few { world.old.alive < 256 }
+    requires few { world.old.alive < most_threads }
     ensures after { world_of world.new ≡ record {
       cells = world.old.cells.items ++ Some (value.Int (pos 0)) ∷ [];
       states = world.old.states.items ++ thread_state.Ready ∷ [];

@@ -2,7 +2,7 @@ ghost use Rattle.std.specs.Prelude.{◌≡◌, ℕ, Some, IfOk, OnErr};
 ghost use Rattle.std.specs.Option.{option_copied};
 ghost use Rattle.jsh_core.specs.declared.world.Run.{Run};
 ghost use Rattle.jsh_core.specs.State.{numbered};
-ghost use Rattle.jsh_core.specs.Runs.{collect, is_thread_alive, own_run, returned_text, run_view, steps_so_far, view_of};
+ghost use Rattle.jsh_core.specs.Runs.{collect, is_thread_alive, outcome_of, own_run, returned_text, run_view, steps_so_far, view_of};
 ghost use Rattle.jsh_core.specs.Parts.{state_from, world_of, IsSound};
 
 use crate::lists::at_number;
@@ -12,6 +12,16 @@ use crate::world::{Run, RunView};
 use jsh_snippet::{Collected, Outcome, Refusal, Reply, ReplyBody};
 use jsh_text::{NoMemory, UText};
 use std::alloc::Global;
+
+/// Whether the thread with this number is alive.
+fn is_alive_at(world: &WorldParts, number: u32) -> bool
+    ensures { result ≡ is_thread_alive (world_of world.now) number }
+{
+    match at_number(&world.states, number) {
+        None => false,
+        Some(state) => state.is_alive(),
+    }
+}
 
 /// The text that the main thread of a run has returned.
 fn returned_by<'a>(world: &'a WorldParts, run: &Run) -> Option<&'a UText>
@@ -33,6 +43,17 @@ fn steps_of(world: &WorldParts, run: &Run) -> u64
     }
 }
 
+/// How a run has ended whose main thread isn't alive. Only its owner's leave has stopped one that
+/// has returned nothing.
+fn outcome_of(world: &WorldParts, run: &Run) -> Result<Outcome, NoMemory>
+    ensures { IfOk result (λ outcome. outcome ≡ outcome_of (world_of world.now) run.now) }
+{
+    match returned_by(world, run) {
+        None => Ok(Outcome::Stopped { by: run.owner }),
+        Some(text) => Ok(Outcome::Value(text.clone()?)),
+    }
+}
+
 /// How it stands with a client's own run. It is handed out once it is over.
 fn collect_own(parts: &mut Parts, alloc: Global, number: u32, run: Run) -> Result<Reply, NoMemory>
     requires sound { IsSound parts.old }
@@ -42,23 +63,19 @@ fn collect_own(parts: &mut Parts, alloc: Global, number: u32, run: Run) -> Resul
     ensures sound { IsSound parts.new }
     ensures threads { parts.new.world.threads ≡ parts.old.world.threads }
 {
-    match returned_by(&parts.world, &run) {
-        None => {
-            let steps = steps_of(&parts.world, &run);
-            Ok(answer_of(alloc, ReplyBody::Collected(Collected::Running { steps })))
-        }
-        Some(text) => {
-            let outcome = Outcome::Value(text.clone()?);
-            let name = temporary_name_of(alloc, run.snippet)?;
-            parts.world.runs[number as usize - 1].gone = true;
-            let over = Collected::Over {
-                id: run.snippet,
-                name,
-                outcome,
-            };
-            Ok(answer_of(alloc, ReplyBody::Collected(over)))
-        }
+    if is_alive_at(&parts.world, run.main) {
+        let steps = steps_of(&parts.world, &run);
+        return Ok(answer_of(alloc, ReplyBody::Collected(Collected::Running { steps })));
     }
+    let outcome = outcome_of(&parts.world, &run)?;
+    let name = temporary_name_of(alloc, run.snippet)?;
+    parts.world.runs[number as usize - 1].gone = true;
+    let over = Collected::Over {
+        id: run.snippet,
+        name,
+        outcome,
+    };
+    Ok(answer_of(alloc, ReplyBody::Collected(over)))
 }
 
 /// The outcome of a run is asked for.
@@ -85,16 +102,6 @@ pub fn collect_run(
         return Ok(refused(alloc, Refusal::NotOwner { owner: found.owner }));
     }
     collect_own(parts, alloc, number, found)
-}
-
-/// Whether the thread with this number is alive.
-fn is_alive_at(world: &WorldParts, number: u32) -> bool
-    ensures { result ≡ is_thread_alive (world_of world.now) number }
-{
-    match at_number(&world.states, number) {
-        None => false,
-        Some(state) => state.is_alive(),
-    }
 }
 
 /// A run as it can be seen.

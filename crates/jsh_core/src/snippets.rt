@@ -1,24 +1,22 @@
 ghost use Rattle.std.specs.Prelude.{◌≡◌, ℕ, ◌+◌, ◌∷◌, [], ◌<◌, ◌^◌, length, codes, Some, IfOk, OnErr};
+ghost use Rattle.std.specs.Str.{IsUtf8};
+ghost use Rattle.jsh_verdict.specs.Verdict.{tree_of};
+ghost use Rattle.jsh_core.specs.Limits.{most_records, most_threads};
 ghost use Rattle.jsh_core.specs.State.{answer};
 ghost use Rattle.jsh_core.specs.Snippets.{accepted, accepted_event, accepted_record, accepted_reply, rejected, rejected_event, rejected_record, rejected_reply, submitted, temporary_name};
 ghost use Rattle.jsh_core.specs.Parts.{state_from, IsSound, StepsAtMost};
 ghost use Rattle.jsh_snippet.specs.declared.replies.ReplyBody.TheVariants as body;
 
+use crate::limits::{MOST_RECORDS, MOST_THREADS};
 use crate::lists::push_reserved;
 use crate::parts::{Parts, add_run, reserve_run};
 use jsh_snippet::{
     Event, Fate, Kind, LimitKind, Record, Refusal, Reply, ReplyBody, Status, Subkind, Submitted,
 };
 use jsh_text::{NoMemory, UText, print_unsigned};
-use jsh_tree::{Diagnostic, Name, Seq, SrcText, Sum, TypeWritten};
-use jsh_verdict::{Verdict, judge};
+use jsh_tree::{Diagnostic, Name, Seq, SrcText, Tree, TypeWritten};
+use jsh_verdict::{Judged, Verdict, judge};
 use std::alloc::Global;
-
-/// Records between two resets.
-pub const MAX_RECORDS: usize = 16_384;
-
-/// Threads that are alive at a time.
-pub const MAX_ALIVE_THREADS: usize = 256;
 
 /// The name of a temporary variable: `$` and its snippet's number.
 pub fn temporary_name_of(alloc: Global, id: u32) -> Result<UText, NoMemory>
@@ -59,28 +57,30 @@ fn new_accepted_record(
     alloc: Global,
     id: u32,
     source: &SrcText,
-    sum: Sum,
+    tree: Option<Tree>,
 ) -> Result<Record, NoMemory>
-    ensures { IfOk result (λ new. new ≡ accepted_record id source.now sum) }
+    requires { tree ≡ tree_of source.now }
+    ensures { IfOk result (λ new. new ≡ accepted_record id source.now) }
 {
     let name = Name::from_text(alloc, "int")?;
     Ok(Record {
         id,
         source: source.clone()?,
-        sum: Some(sum),
+        tree,
         fixed: Some(TypeWritten { name, dims: 0 }),
         kind: Some(Kind::Var),
         fate: Fate::Live,
     })
 }
 
-fn new_rejected_record(id: u32, source: &SrcText) -> Result<Record, NoMemory>
+fn new_rejected_record(id: u32, source: &SrcText, tree: Option<Tree>) -> Result<Record, NoMemory>
+    requires { tree ≡ tree_of source.now }
     ensures { IfOk result (λ new. new ≡ rejected_record id source.now) }
 {
     Ok(Record {
         id,
         source: source.clone()?,
-        sum: None,
+        tree,
         fixed: None,
         kind: Some(Kind::Erroneous),
         fate: Fate::Rejected,
@@ -161,17 +161,19 @@ fn reject(
     parts: &mut Parts,
     alloc: Global,
     source: &SrcText,
+    tree: Option<Tree>,
     diagnostics: Seq<Diagnostic>,
 ) -> Result<Reply, NoMemory>
+    requires tree { tree ≡ tree_of source.now }
     requires sound { IsSound parts.old }
-    requires room { length parts.old.book.items < 16384 }
+    requires room { length parts.old.book.items < most_records }
     ensures ok { IfOk result (λ reply. record { state = state_from parts.new; reply = reply } ≡ rejected (state_from parts.old) source.now diagnostics) }
     ensures err { OnErr result (state_from parts.new ≡ state_from parts.old) }
     ensures sound { IsSound parts.new }
     ensures steps { (bound : ℕ) → StepsAtMost bound parts.old.world.threads.items → StepsAtMost bound parts.new.world.threads.items }
 {
     let id = parts.book.len() as u32 + 1;
-    let record = new_rejected_record(id, source)?;
+    let record = new_rejected_record(id, source, tree)?;
     let reply = new_rejected_reply(alloc, id, diagnostics)?;
     parts.book.reserve(1)?;
     parts.world.cells.reserve(1)?;
@@ -185,12 +187,13 @@ fn accept(
     alloc: Global,
     client: u32,
     source: &SrcText,
-    sum: Sum,
+    tree: Option<Tree>,
 ) -> Result<Reply, NoMemory>
+    requires tree { tree ≡ tree_of source.now }
     requires sound { IsSound parts.old }
-    requires room { length parts.old.book.items < 16384 }
-    requires few { parts.old.world.alive < 256 }
-    ensures ok { IfOk result (λ reply. record { state = state_from parts.new; reply = reply } ≡ accepted (state_from parts.old) client source.now sum) }
+    requires room { length parts.old.book.items < most_records }
+    requires few { parts.old.world.alive < most_threads }
+    ensures ok { IfOk result (λ reply. record { state = state_from parts.new; reply = reply } ≡ accepted (state_from parts.old) client source.now) }
     ensures err { OnErr result (state_from parts.new ≡ state_from parts.old) }
     ensures sound { IsSound parts.new }
     ensures steps { (bound : ℕ) → StepsAtMost bound parts.old.world.threads.items → StepsAtMost bound parts.new.world.threads.items }
@@ -198,7 +201,7 @@ fn accept(
     let id = parts.book.len() as u32 + 1;
     let main = parts.world.threads.len() as u32 + 1;
     let run = parts.world.runs.len() as u32 + 1;
-    let entered = new_accepted_record(alloc, id, source, sum)?;
+    let entered = new_accepted_record(alloc, id, source, tree)?;
     let reply = new_accepted_reply(alloc, id, run)?;
     parts.book.reserve(1)?;
     reserve_run(&mut parts.world)?;
@@ -217,33 +220,36 @@ pub fn submit(
 ) -> Result<Reply, NoMemory>
     requires sound { IsSound parts.old }
     requires short { length source.now < 2 ^ 32 }
+    ensures utf8 { IsUtf8 source.now }
     ensures ok { IfOk result (λ reply. record { state = state_from parts.new; reply = reply } ≡ submitted (state_from parts.old) client source.now) }
     ensures err { OnErr result (state_from parts.new ≡ state_from parts.old) }
     ensures sound { IsSound parts.new }
     ensures steps { (bound : ℕ) → StepsAtMost bound parts.old.world.threads.items → StepsAtMost bound parts.new.world.threads.items }
 {
-    if parts.book.len() >= MAX_RECORDS {
+    let text = source.as_str();
+    if parts.book.len() >= MOST_RECORDS {
         return Ok(refused(
             alloc,
             Refusal::Limit {
                 which: LimitKind::Records,
-                count: MAX_RECORDS as u64,
+                count: MOST_RECORDS as u64,
             },
         ));
     }
-    match judge(alloc, source.as_str())? {
-        Verdict::Rejected(diagnostics) => reject(parts, alloc, source, diagnostics),
-        Verdict::Accepted(sum) => {
-            if parts.world.alive >= MAX_ALIVE_THREADS {
+    let Judged { tree, verdict } = judge(alloc, text)?;
+    match verdict {
+        Verdict::Rejected(diagnostics) => reject(parts, alloc, source, tree, diagnostics),
+        Verdict::Accepted(_) => {
+            if parts.world.alive >= MOST_THREADS {
                 return Ok(refused(
                     alloc,
                     Refusal::Limit {
                         which: LimitKind::Threads,
-                        count: MAX_ALIVE_THREADS as u64,
+                        count: MOST_THREADS as u64,
                     },
                 ));
             }
-            accept(parts, alloc, client, source, sum)
+            accept(parts, alloc, client, source, tree)
         }
     }
 }

@@ -1,7 +1,7 @@
 use jsh_text::UText;
 
 /// What a thread runs, beside its state.
-#[derive(Debug, Drop)]
+#[derive(Drop)]
 pub struct Thread {
     /// The client whose snippet started it.
     pub owner: u32,
@@ -14,14 +14,14 @@ pub struct Thread {
 }
 
 /// A body that is being run: that of a snippet, with the number of requests that were answered.
-#[derive(Clone, Copy, Debug, PartialEq, Eq)]
+#[derive(Clone, Copy)]
 pub struct Frame {
     pub snippet: u32,
     pub answers: u32,
 }
 
 /// The evaluation of a snippet.
-#[derive(Clone, Copy, Debug, PartialEq, Eq)]
+#[derive(Clone, Copy)]
 pub struct Run {
     /// The client that submitted the snippet.
     pub owner: u32,

@@ -68,6 +68,7 @@ fn start(out: &mut String, tree: &ForStart) -> Result<(), AllocError> {
         ForStart::Local {
             is_final,
             variable: declared,
+            ..
         } => {
             out.push_str(" ")?;
             final_word(out, *is_final)?;
@@ -243,6 +244,7 @@ fn listed(out: &mut String, inside: &[BlockStatement], left: u32) -> Result<(), 
             BlockStatement::Local {
                 is_final,
                 variable: declared,
+                ..
             } => {
                 final_word(out, *is_final)?;
                 variable(out, declared)?;

@@ -11,7 +11,7 @@ use Rattle.jsh_tree.specs.declared.statement.ForStart.TheVariants as start
 use Rattle.jsh_parse.specs.Leaves.{identifier_of}
 use Rattle.jsh_parse.specs.Marks.{is_left_paren, is_right_paren, is_identifier}
 use Rattle.jsh_parse.specs.Forms.{is_semicolon, is_assign, is_var}
-use Rattle.jsh_parse.specs.Statements.{is_statement, ends_in_call}
+use Rattle.jsh_parse.specs.Statements.{first_span, is_statement, ends_in_call}
 use Rattle.jsh_parse.specs.Reader.{Read, and_then, accept, sees, type_read}
 use Rattle.jsh_parse.specs.Reading.{name_read, expr_at, initial_at}
 use Rattle.jsh_parse.specs.StatementReader.{final_read, begins_local}
@@ -111,7 +111,7 @@ module _ (text : List ℕ) (room : ℕ) (ts : List Token) where
   start_absent h = rw h
 
   pub start_local : sees is_semicolon ts ≡ false → begins_local ts ≡ true →
-      start_at text room ts ≡ and_then (variable_at text room (final_read ts).1) (λ v rest. Some (start.Local (final_read ts).0 v, rest))
+      start_at text room ts ≡ and_then (variable_at text room (final_read ts).1) (λ v rest. Some (start.Local (first_span ts) (final_read ts).0 v, rest))
   unfolding start_at variable_at
   start_local h k = rw (h, k)
 

@@ -10,6 +10,7 @@ use Rattle.jsh_parse.specs.declared.forms.Form.TheVariants as form
 use Rattle.jsh_parse.specs.Marks.{is_left_paren, is_left_brace, is_right_brace}
 use Rattle.jsh_parse.specs.Forms.{form_of, is_semicolon, is_else, is_while}
 use Rattle.jsh_parse.specs.Reader.{Read, Inner, and_then, accept, sees, readers_over}
+use Rattle.jsh_parse.specs.Statements.{first_span}
 use Rattle.jsh_parse.specs.StatementReader as reader
 use Rattle.jsh_parse.specs.StatementReader.{Deeper, inner_of, statement_readers, final_read, begins_local, is_for_each}
 use Rattle.jsh_parse.specs.StatementReading.{statements_below, stmt_at, block_at, statements_at, block_statement_at, groups_at, catches_at, optional_at, condition_at, if_at, while_at, do_at, for_at, switch_at, try_at, return_at, throw_at, expression_at, braced_at, tried, local_at, variable_at, for_head_at, each_head_at}
@@ -184,14 +185,14 @@ module _ (text : List ℕ) (ts : List Token) where
 module _ (text : List ℕ) (room : ℕ) (ts : List Token) where
   locally : begins_local ts ≡ true → block_statement_at text room ts
       ≡ and_then (reader.variable_read text (readers_over text (inner_of (statements_below text room))) (final_read ts).1) (λ v rest.
-      and_then (accept is_semicolon rest) (λ u end. Some (block_statement.Local (final_read ts).0 v, end)))
+      and_then (accept is_semicolon rest) (λ u end. Some (block_statement.Local (first_span ts) (final_read ts).0 v, end)))
   unfolding block_statement_at
   locally h = rw h
 
   pub local_first : begins_local ts ≡ true → block_statement_at text room ts ≡ local_at text room ts
   unfolding local_at variable_at
   local_first h = locally h ∙ ap (λ (i : Inner). and_then (reader.variable_read text i (final_read ts).1) (λ v rest.
-      and_then (accept is_semicolon rest) (λ u end. Some (block_statement.Local (final_read ts).0 v, end)))) (here text room)
+      and_then (accept is_semicolon rest) (λ u end. Some (block_statement.Local (first_span ts) (final_read ts).0 v, end)))) (here text room)
 
   pub statement_first : begins_local ts ≡ false →
       block_statement_at text room ts ≡ and_then (stmt_at text room ts) (λ s end. Some (block_statement.Statement s, end))

@@ -2,10 +2,11 @@
 use Rattle.std.proofs.Common.{◌≡◌, ℕ, zero, suc, Bool, true, false, if◌then◌else◌, List, [], ◌∷◌, ◌++◌, refl, ap, ◌∙◌}
 use Rattle.jsh_tree.specs.declared.token.Token.{Token}
 use Rattle.jsh_tree.specs.declared.token.TokenKind.{TokenKind}
+use Rattle.jsh_tree.specs.declared.statement.Variable.{Variable}
 use Rattle.jsh_parse.specs.Marks.{is_left_paren, is_right_paren, is_colon, is_identifier}
 use Rattle.jsh_parse.specs.Leaves.{literal_of}
 use Rattle.jsh_parse.specs.Forms.{is_semicolon, is_assign, is_final, is_var, is_case, is_default, is_minus, is_case_value, begins_label}
-use Rattle.jsh_parse.specs.Statements.{is_statement, IsFinal, IsType, IsVariable, IsOptional, IsUpdate, IsForStart, IsLabel, AreLabels, IsCondition}
+use Rattle.jsh_parse.specs.Statements.{first_span, is_statement, IsFinal, IsType, IsVariable, IsOptional, IsUpdate, IsForStart, IsLabel, AreLabels, IsCondition}
 use Rattle.jsh_parse.specs.Reader.{sees, type_read, Inner}
 use Rattle.jsh_parse.specs.StatementReader.{final_read, begins_local, variable_read, optional_read, update_read, start_read, condition_read, label_read, labels_read}
 use Rattle.jsh_parse.proofs.Gives.{Gives, given, nothing, weaker_given, then_given, choose, by_option_at, accepts}
@@ -54,6 +55,14 @@ variable_sound text room i s (t ∷ ts) =
       IsVariable.bare n h.2 (identifier n.kind g.1),
     )))))
 
+-- a declaration has a token, so what follows doesn't change where it begins
+pub declaration-first : {text : List ℕ} {room : ℕ} {f l : List Token} {is : Bool} {v : Variable} → IsFinal f is → IsVariable text room l v →
+    (ts rest : List Token) → ts ≡ (f ++ l) ++ rest → first_span ts ≡ first_span (f ++ l)
+declaration-first (IsFinal.final t h) d ts rest e = rw e refl
+declaration-first IsFinal.not_final (IsVariable.inferred v n t a b c d) ts rest e = rw e refl
+declaration-first IsFinal.not_final (IsVariable.bare n (IsType.named m h b) k) ts rest e = rw e refl
+declaration-first IsFinal.not_final (IsVariable.initialized n t (IsType.named m h b) k q d) ts rest e = rw e refl
+
 -- ---- expressions that may be missing
 
 pub optional_sound : (ends : TokenKind → Bool) (text : List ℕ) (room : ℕ) (i : Inner) → IsSound text room i → (ts : List Token) →
@@ -79,11 +88,9 @@ start_sound text room i s ts =
     (λ a. given _ _ ([], refl, IsForStart.nothing))
     (λ a. choose (begins_local ts) _ _
     (λ b. let f = final_sound ts in
-    then_given _ _ _ (variable_sound text room i s (final_read ts).1) (λ v rest h. given _ _ (
-      f.0 ++ h.0,
-      behind_front f.0 h.0 ts (final_read ts).1 rest f.1 h.1,
-      IsForStart.local f.2 h.2,
-    )))
+    then_given _ _ _ (variable_sound text room i s (final_read ts).1) (λ v rest h.
+    let whole = behind_front f.0 h.0 ts (final_read ts).1 rest f.1 h.1 in
+    given _ _ (f.0 ++ h.0, whole, rw (declaration-first f.2 h.2 ts rest whole) (IsForStart.local f.2 h.2))))
     (λ b. then_given _ _ _ (s.expr ts) (λ e rest h. choose (is_statement e) _ _
     (λ c. given _ _ (h.0, h.1, IsForStart.expression h.2 c))
     (λ c. nothing))))

@@ -14,13 +14,13 @@ use Rattle.jsh_tree.specs.declared.statement.CatchClause.{CatchClause, roll-Catc
 use Rattle.jsh_tree.specs.declared.statement.Variable.{Variable}
 use Rattle.jsh_parse.specs.Leaves.{literal_of, identifier_of}
 use Rattle.jsh_parse.specs.Forms.{is_minus, is_final, is_case_value, begins_label}
-use Rattle.jsh_parse.specs.Statements.{IsFinal}
+use Rattle.jsh_parse.specs.Statements.{first_span, IsFinal}
 use Rattle.jsh_parse.specs.Reader.{sees, readers_over}
 use Rattle.jsh_parse.specs.StatementReader.{Deeper, inner_of, begins_local, variable_read, block_read, catches, stmt_read, block_statement_read, statements_read, label_read, labels_read, groups_read}
 use Rattle.jsh_parse.proofs.Steps.{Reads}
 use Rattle.jsh_parse.proofs.Pieces.{ReadsFree}
 use Rattle.jsh_parse.proofs.StatementFronts.{Begins, Ended, Clear, read-final}
-use Rattle.jsh_parse.proofs.StatementSteps.{ReadsStmt, Declares, ReadsCatches}
+use Rattle.jsh_parse.proofs.StatementSteps.{ReadsStmt, Declares, first-declared, ReadsCatches}
 
 -- ---- blocks
 
@@ -52,15 +52,17 @@ read-more text deeper (t ∷ ts) r s ss b less d ds (suc most) h rest e = rw (b.
 
 pub read-more_local : (text : List ℕ) (deeper : Option Deeper) (f l r : List Token) (is : Bool) (v : Variable) (ss : List BlockStatement) (u : Token) → IsFinal f is →
     Declares f l → Begins (f ++ (l ++ u ∷ r)) → Reads (variable_read text (readers_over text (inner_of deeper))) 1 l v → u.kind ≡ token.Semicolon →
-    ReadsStatements text deeper r ss → ReadsStatements text deeper (f ++ (l ++ u ∷ r)) (block_statement.Local is v ∷ ss)
+    ReadsStatements text deeper r ss → ReadsStatements text deeper (f ++ (l ++ u ∷ r)) (block_statement.Local (first_span (f ++ l)) is v ∷ ss)
 read-more_local text deeper f l r is v ss u modifier declares b d hu ds =
-    read-more text deeper (f ++ (l ++ u ∷ r)) r (block_statement.Local is v) ss b (omega (arith, length-append f (l ++ u ∷ r), length-append l (u ∷ r))) one ds
+    read-more text deeper (f ++ (l ++ u ∷ r)) r (block_statement.Local (first_span (f ++ l)) is v) ss b (omega (arith, length-append f (l ++ u ∷ r), length-append l (u ∷ r))) one ds
   where
-    one : (rest : List Token) → Ended rest → block_statement_read text deeper ((f ++ (l ++ u ∷ r)) ++ rest) ≡ Some (block_statement.Local is v, r ++ rest)
+    one : (rest : List Token) → Ended rest → block_statement_read text deeper ((f ++ (l ++ u ∷ r)) ++ rest) ≡ Some (block_statement.Local (first_span (f ++ l)) is v, r ++ rest)
     one rest e =
         let first = declares (u ∷ (r ++ rest)) in
         let variable = d (u ∷ (r ++ rest)) (rw hu (omega arith)) in
-        rw (append_assoc f (l ++ u ∷ r) rest, append_assoc l (u ∷ r) rest, first.1, read-final modifier (l ++ u ∷ (r ++ rest)) first.2, variable, hu) refl
+        let begins = first-declared f l (u ∷ (r ++ rest)) declares in
+        rw (append_assoc f (l ++ u ∷ r) rest, append_assoc l (u ∷ r) rest, first.1, begins, read-final modifier (l ++ u ∷ (r ++ rest)) first.2, variable, hu)
+        refl
 
 pub read-more_statement : (text : List ℕ) (deeper : Option Deeper) (dangling : Bool) (l r : List Token) (s : Stmt) (ss : List BlockStatement) → Begins l →
     ((more : List Token) → begins_local (l ++ more) ≡ false) → ((rest : List Token) → Ended rest → Clear dangling (r ++ rest)) →

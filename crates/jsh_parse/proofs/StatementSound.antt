@@ -1,5 +1,6 @@
 -- The statements that the reader takes are in the grammar.
 use Rattle.std.proofs.Common.{◌≡◌, ◌≢◌, ℕ, zero, suc, ◌<◌, Bool, false, List, [], ◌∷◌, ◌++◌, Option, Some, None, refl, sym, ap, ◌∙◌, length, append_assoc, append-nil, subst}
+use Rattle.jsh_tree.specs.declared.token.Span.{Span}
 use Rattle.jsh_tree.specs.declared.token.Token.{Token}
 use Rattle.jsh_tree.specs.declared.token.TokenKind.TheVariants as token
 use Rattle.jsh_tree.specs.declared.statement.Stmt.{Stmt}
@@ -11,7 +12,7 @@ use Rattle.jsh_tree.specs.declared.statement.SwitchGroup.{SwitchGroup}
 use Rattle.jsh_tree.specs.declared.statement.SwitchLabel.{SwitchLabel}
 use Rattle.jsh_tree.specs.declared.statement.Variable.{Variable}
 use Rattle.jsh_parse.specs.Forms.{form_of, is_semicolon, begins_label, ends_statements}
-use Rattle.jsh_parse.specs.Statements.{IsFinal, IsVariable, IsLabel, AreLabels, IsStmt, IsBlock, AreStatements, AreGroups}
+use Rattle.jsh_parse.specs.Statements.{first_span, IsFinal, IsVariable, IsLabel, AreLabels, IsStmt, IsBlock, AreStatements, AreGroups}
 use Rattle.jsh_parse.specs.Reader.{sees, readers_over}
 use Rattle.jsh_parse.specs.StatementReader.{Deeper, inner_of, final_read, begins_local, block_read, stmt_read, block_statement_read, statements_read, label_read, labels_read, groups_read, deeper_over, statement_readers}
 use Rattle.jsh_parse.proofs.Gives.{Gives, given, nothing, of_given, weaker_given, then_given, choose, accepts}
@@ -19,7 +20,7 @@ use Rattle.jsh_parse.proofs.FormLemmas.{semicolon, empty_form, if_form, while_fo
 use Rattle.jsh_parse.proofs.SoundLists.{Front, IsSound, behind_front, with_last}
 use Rattle.jsh_parse.proofs.SoundPaths.{impossible}
 use Rattle.jsh_parse.proofs.Sound.{over_sound, joined_some, split_some, shorter}
-use Rattle.jsh_parse.proofs.StatementParts.{final_sound, variable_sound, optional_sound, label_sound, labels_sound}
+use Rattle.jsh_parse.proofs.StatementParts.{final_sound, declaration-first, variable_sound, optional_sound, label_sound, labels_sound}
 use Rattle.jsh_parse.proofs.StatementForms.{StmtFront, IsDeeperSound, AreDeeperSound, deeper_given, inner_sound, closed, block_sound, expression_sound, jump_sound, if_sound, while_sound, do_sound, for_sound, switch_sound, try_sound}
 
 -- the expressions of the same depth
@@ -99,10 +100,11 @@ pub record BlockStatementFront (text : List ℕ) (room : ℕ) (ts : List Token) 
   pub holds : (behind : List Token) (others : List BlockStatement) → AreStatements text room behind others → AreStatements text room (pre ++ behind) (s ∷ others)
 
 one_local : {text : List ℕ} {room : ℕ} {is_final : Bool} {f l : List Token} {v : Variable} (u : Token) → IsFinal f is_final → IsVariable text room l v →
-    u.kind ≡ token.Semicolon → (behind : List Token) (others : List BlockStatement) → AreStatements text room behind others →
-    AreStatements text room ((f ++ (l ++ u ∷ [])) ++ behind) (block_statement.Local is_final v ∷ others)
-one_local {f = f} {l = l} u a v b behind others h =
-    rw (append_assoc f (l ++ u ∷ []) behind, append_assoc l (u ∷ []) behind) (AreStatements.one_more_local u a v b h)
+    u.kind ≡ token.Semicolon → (span : Span) → span ≡ first_span (f ++ l) → (behind : List Token) (others : List BlockStatement) →
+    AreStatements text room behind others →
+    AreStatements text room ((f ++ (l ++ u ∷ [])) ++ behind) (block_statement.Local span is_final v ∷ others)
+one_local {f = f} {l = l} u a v b span e behind others h =
+    rw (e, append_assoc f (l ++ u ∷ []) behind, append_assoc l (u ∷ []) behind) (AreStatements.one_more_local u a v b h)
 
 pub block_statement_sound : (text : List ℕ) (room : ℕ) (deeper : Option Deeper) → AreDeeperSound text room deeper → (ts : List Token) →
     Gives (BlockStatementFront text room ts) (block_statement_read text deeper ts)
@@ -114,7 +116,8 @@ block_statement_sound text room deeper s ts =
       pre = f.0 ++ (h.0 ++ u ∷ []);
       parts = behind_front f.0 (h.0 ++ u ∷ []) ts (final_read ts).1 end f.1 (with_last h.0 (final_read ts).1 end u (h.1 ∙ ap (λ x. h.0 ++ x) g.0));
       some = behind_some f.0 (h.0 ++ u ∷ []) (split_some h.0 [] u);
-      holds = one_local u f.2 h.2 (semicolon u.kind g.1);
+      holds = one_local u f.2 h.2 (semicolon u.kind g.1) (first_span ts)
+          (declaration-first f.2 h.2 ts rest (behind_front f.0 h.0 ts (final_read ts).1 rest f.1 h.1));
     }))))
     (λ a. then_given _ _ _ (stmt_read_sound text room deeper s ts) (λ one end h. given _ _ (record {
       pre = h.pre;

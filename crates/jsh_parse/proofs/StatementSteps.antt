@@ -18,7 +18,7 @@ use Rattle.jsh_parse.specs.Leaves.{AreBrackets, identifier_of, names_type, type_
 use Rattle.jsh_parse.specs.Forms.{form_of, is_semicolon, is_final, is_catch}
 use Rattle.jsh_parse.specs.Marks.{is_right_paren}
 use Rattle.jsh_parse.specs.declared.forms.Form.TheVariants as form
-use Rattle.jsh_parse.specs.Statements.{IsFinal, is_statement}
+use Rattle.jsh_parse.specs.Statements.{first_span, IsFinal, is_statement}
 use Rattle.jsh_parse.specs.Reader.{Read, sees, initial_read, Inner, readers_over}
 use Rattle.jsh_parse.specs.StatementReader.{Deeper, inner_of, begins_local, is_for_each, variable_read, optional_read, update_read, start_read, condition_read, block_read, catches, stmt_read}
 use Rattle.jsh_parse.proofs.Follow.{Stops}
@@ -85,12 +85,18 @@ read-nothing text i u hu rest = rw hu refl
 abbrev pub Declares : List Token → List Token → Type 0
 Declares f l = (more : List Token) → (sees is_semicolon (f ++ (l ++ more)) ≡ false) × (begins_local (f ++ (l ++ more)) ≡ true) × (sees is_final (l ++ more) ≡ false)
 
+-- it has a token, so what follows doesn't change where it begins
+pub first-declared : (f l more : List Token) → Declares f l → first_span (f ++ (l ++ more)) ≡ first_span (f ++ l)
+first-declared [] [] more declares = let h = (declares []).1 in cc
+first-declared [] (t ∷ l) more declares = refl
+first-declared (t ∷ f) l more declares = refl
+
 pub read-local_start : (text : List ℕ) (i : Inner) (f l : List Token) (is : Bool) (v : Variable) → IsFinal f is → Declares f l → Reads (variable_read text i) 1 l v →
-    ReadsTo (start_read text i) token.Semicolon (f ++ l) (start.Local is v)
+    ReadsTo (start_read text i) token.Semicolon (f ++ l) (start.Local (first_span (f ++ l)) is v)
 read-local_start text i f l is v modifier declares d u hu rest =
     let first = declares (u ∷ rest) in
     let variable = d (u ∷ rest) (rw hu (omega arith)) in
-    rw (append_assoc f l (u ∷ rest), first.0, first.1, read-final modifier (l ++ u ∷ rest) first.2, variable) refl
+    rw (append_assoc f l (u ∷ rest), first.0, first.1, read-final modifier (l ++ u ∷ rest) first.2, variable, first-declared f l (u ∷ rest) declares) refl
 
 pub read-expression_start : (text : List ℕ) (i : Inner) (l : List Token) (e : Expr) → Front l → Reads i.expr 1 l e → is_statement e ≡ true →
     ReadsTo (start_read text i) token.Semicolon l (start.Expression e)

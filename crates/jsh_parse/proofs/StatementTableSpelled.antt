@@ -32,7 +32,7 @@ use Rattle.jsh_parse.specs.Leaves.{identifier_of, is_step, is_open_creation, beg
 use Rattle.jsh_parse.specs.Grammar as expressions
 use Rattle.jsh_parse.specs.Grammar.{IsExpr, IsUnary, IsPath, AreParts, IsPrimary, AreArguments}
 use Rattle.jsh_parse.specs.Statements as grammar
-use Rattle.jsh_parse.specs.Statements.{is_statement, IsFinal, IsType, IsVariable, IsOptional, IsUpdate, IsForStart, IsLabel, AreLabels, IsCondition, IsStmt, IsBlock, AreStatements, AreGroups, AreCatches}
+use Rattle.jsh_parse.specs.Statements.{first_span, is_statement, IsFinal, IsType, IsVariable, IsOptional, IsUpdate, IsForStart, IsLabel, AreLabels, IsCondition, IsStmt, IsBlock, AreStatements, AreGroups, AreCatches}
 use Rattle.jsh_recognizer.specs.Recognizing.{kinds}
 use Rattle.jsh_parse.proofs.LayerLemmas.{index-Call}
 use Rattle.jsh_parse.proofs.TableSymbols.{AreSymbols, none, one, among, in_part, in_deep, AllKnown, Whole, by_whole}
@@ -228,12 +228,12 @@ initialized_tree text (in_part (written, d) (one n hn known (one t ht also (in_p
 
 local_start_tree : (text : List ℕ) {room : ℕ} {ts : List Token} → HaveStatements text room (table.part table.variable ∷ []) ts →
     HasStatement text table.for_start room ts
-local_start_tree text (in_part (v, d) none) = (start.Local false v, rw append-nil (grammar.local grammar.not_final d))
+local_start_tree text (in_part {l = l} (v, d) none) = (start.Local (first_span l) false v, rw append-nil (grammar.local grammar.not_final d))
 
 final_start_tree : (text : List ℕ) {room : ℕ} {ts : List Token} → HaveStatements text room (table.a token.Final ∷ table.part table.variable ∷ []) ts →
     HasStatement text table.for_start room ts
 final_start_tree text (one t h known (in_part (v, d) none)) =
-    (start.Local true v, rw append-nil (grammar.local {f = t ∷ []} (grammar.final t h) d))
+    (start.Local t.span true v, rw append-nil (grammar.local {f = t ∷ []} (grammar.final t h) d))
 
 no_start_tree : (text : List ℕ) {room : ℕ} {ts : List Token} → HaveStatements text room [] ts → HasStatement text table.for_start room ts
 no_start_tree text none = (start.Nothing, grammar.nothing)
@@ -376,14 +376,14 @@ more_statements_tree text (in_part (s, put) (in_part {l = r} (inside, d) none)) 
 local_tree : (text : List ℕ) {room : ℕ} {ts : List Token} →
     HaveStatements text room (table.part table.variable ∷ table.a token.Semicolon ∷ []) ts → IsFirst text room ts
 local_tree text (in_part {l = l} (v, d) (one u hu last none)) = (
-  block_statement.Local false v,
+  block_statement.Local (first_span l) false v,
   λ r rest ds. rw (append_assoc l (u ∷ []) r) (grammar.one_more_local {f = []} u grammar.not_final d hu ds),
 )
 
 final_local_tree : (text : List ℕ) {room : ℕ} {ts : List Token} →
     HaveStatements text room (table.a token.Final ∷ table.part table.variable ∷ table.a token.Semicolon ∷ []) ts → IsFirst text room ts
 final_local_tree text (one t h known (in_part {l = l} (v, d) (one u hu last none))) = (
-  block_statement.Local true v,
+  block_statement.Local t.span true v,
   λ r rest ds. rw (append_assoc l (u ∷ []) r) (grammar.one_more_local {f = t ∷ []} u (grammar.final t h) d hu ds),
 )
 

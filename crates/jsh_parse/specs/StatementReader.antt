@@ -20,7 +20,7 @@ use Rattle.jsh_tree.specs.declared.statement.ForStart.{ForStart}
 use Rattle.jsh_tree.specs.declared.statement.ForStart.TheVariants as start
 use Rattle.jsh_parse.specs.Marks.{is_left_paren, is_right_paren, is_left_brace, is_right_brace, is_colon, is_identifier}
 use Rattle.jsh_parse.specs.Leaves.{literal_of, identifier_of, is_primitive, names_type}
-use Rattle.jsh_parse.specs.Statements.{is_statement}
+use Rattle.jsh_parse.specs.Statements.{first_span, is_statement}
 use Rattle.jsh_parse.specs.declared.forms.Form.{Form}
 use Rattle.jsh_parse.specs.declared.forms.Form.TheVariants as form
 use Rattle.jsh_parse.specs.Forms.{form_of, is_semicolon, is_assign, is_else, is_while, is_final, is_var, is_case, is_default, is_minus, is_catch, begins_label, ends_statements, is_case_value}
@@ -90,7 +90,7 @@ abbrev pub start_read : List ℕ → Inner → List Token → Read ForStart
 start_read text i ts =
     if sees is_semicolon ts then Some (start.Nothing, ts)
     else (if begins_local ts
-    then and_then (variable_read text i (final_read ts).1) (λ v rest. Some (start.Local (final_read ts).0 v, rest))
+    then and_then (variable_read text i (final_read ts).1) (λ v rest. Some (start.Local (first_span ts) (final_read ts).0 v, rest))
     else and_then (i.expr ts) (λ e rest. if is_statement e then Some (start.Expression e, rest) else None))
 
 -- "(" Expr ")"
@@ -201,7 +201,7 @@ abbrev pub block_statement_read : List ℕ → Option Deeper → List Token → 
 block_statement_read text deeper ts =
     if begins_local ts
     then and_then (variable_read text (readers_over text (inner_of deeper)) (final_read ts).1) (λ v rest.
-    and_then (accept is_semicolon rest) (λ u end. Some (block_statement.Local (final_read ts).0 v, end)))
+    and_then (accept is_semicolon rest) (λ u end. Some (block_statement.Local (first_span ts) (final_read ts).0 v, end)))
     else and_then (stmt_read text deeper ts) (λ s end. Some (block_statement.Statement s, end))
 
 -- {BlockStmt}, of at most so many

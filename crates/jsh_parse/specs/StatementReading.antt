@@ -24,6 +24,7 @@ use Rattle.jsh_parse.specs.Marks.{is_left_paren, is_right_paren, is_colon, is_id
 use Rattle.jsh_parse.specs.Forms.{is_semicolon, is_assign, is_var, is_case_value, is_catch, is_minus, ends_statements}
 use Rattle.jsh_parse.specs.Reader.{Read, and_then, accept, sees, type_read, readers}
 use Rattle.jsh_parse.specs.Reading.{name_read, expr_at}
+use Rattle.jsh_parse.specs.Statements.{first_span}
 use Rattle.jsh_parse.specs.StatementReader as reader
 use Rattle.jsh_parse.specs.StatementReader.{Deeper, deeper_than, statement_readers, final_read}
 
@@ -132,7 +133,7 @@ tried t inside (c ∷ cs) rest = Some (statement.Try t.span inside (c ∷ cs), r
 -- a variable of a block, with its semicolon
 unfoldable pub local_at : List ℕ → ℕ → List Token → Read BlockStatement
 local_at text room ts = and_then (variable_at text room (final_read ts).1) (λ v rest.
-    and_then (accept is_semicolon rest) (λ u end. Some (block_statement.Local (final_read ts).0 v, end)))
+    and_then (accept is_semicolon rest) (λ u end. Some (block_statement.Local (first_span ts) (final_read ts).0 v, end)))
 
 -- a variable whose type is that of its value, behind the word `var`
 unfoldable pub inferred_at : List ℕ → ℕ → List Token → Read Variable

@@ -2,6 +2,7 @@
 -- is that of the grammar of expressions. A block, a statement in a statement and what stands between parentheses are each
 -- one deeper than what they stand in.
 use Rattle.std.specs.Prelude.{◌≡◌, ◌≢◌, ℕ, suc, Bool, true, false, ◌⊎◌, List, [], ◌∷◌, ◌++◌, Option, Some, None}
+use Rattle.jsh_tree.specs.declared.token.Span.{Span}
 use Rattle.jsh_tree.specs.declared.token.Token.{Token}
 use Rattle.jsh_tree.specs.declared.token.TokenKind.{TokenKind}
 use Rattle.jsh_tree.specs.declared.token.TokenKind.TheVariants as token
@@ -55,6 +56,11 @@ is_statement tree = is_statement_layer (out-Expr tree)
 abbrev pub IsOne : TokenKind → List Token → Type 0
 IsOne kind ts = (t : Token) × (t.kind ≡ kind) × (ts ≡ t ∷ [])
 
+-- where what these tokens spell begins: the span of the first, where there is one
+abbrev pub first_span : List Token → Span
+first_span [] = record { from = 0; to = 0 }
+first_span (t ∷ ts) = t.span
+
 -- the word `final`, or nothing
 pub data IsFinal : List Token → Bool → Type 0 where
   not_final : IsFinal [] false
@@ -90,7 +96,7 @@ pub data IsUpdate (text : List ℕ) : ℕ → List Token → Option Expr → Typ
 pub data IsForStart (text : List ℕ) : ℕ → List Token → ForStart → Type 0 where
   nothing : {room : ℕ} → IsForStart text room [] start.Nothing
   local : {room : ℕ} {f l : List Token} {is_final : Bool} {v : Variable} →
-      IsFinal f is_final → IsVariable text room l v → IsForStart text room (f ++ l) (start.Local is_final v)
+      IsFinal f is_final → IsVariable text room l v → IsForStart text room (f ++ l) (start.Local (first_span (f ++ l)) is_final v)
   expression : {room : ℕ} {ts : List Token} {e : Expr} → IsExpr text room ts e → is_statement e ≡ true →
       IsForStart text room ts (start.Expression e)
 
@@ -177,7 +183,7 @@ mutual
     no_statements : {room : ℕ} → AreStatements text room [] []
     one_more_local : {room : ℕ} {is_final : Bool} {f l r : List Token} {v : Variable} {rest : List BlockStatement} (u : Token) →
         IsFinal f is_final → IsVariable text room l v → u.kind ≡ token.Semicolon → AreStatements text room r rest →
-        AreStatements text room (f ++ (l ++ u ∷ r)) (block_statement.Local is_final v ∷ rest)
+        AreStatements text room (f ++ (l ++ u ∷ r)) (block_statement.Local (first_span (f ++ l)) is_final v ∷ rest)
     one_more_statement : {room : ℕ} {dangling : Bool} {l r : List Token} {s : Stmt} {rest : List BlockStatement} →
         IsStmt text room dangling l s → AreStatements text room r rest →
         AreStatements text room (l ++ r) (block_statement.Statement s ∷ rest)

@@ -19,7 +19,7 @@ use crate::word_input::{
 };
 use crate::words::{is_final, is_var};
 use jsh_tree::{
-    BlockStatement, Boxed, Expr, ForStart, Identifier, Initial, PathPart, TypeUse, Variable,
+    BlockStatement, Boxed, Expr, ForStart, Identifier, Initial, PathPart, Span, TypeUse, Variable,
 };
 use std::alloc::{AllocError, Global};
 
@@ -32,6 +32,16 @@ pub fn final_word(input: &Input, at: usize) -> (bool, usize)
     match input.token(at) {
         Some(token) if is_final(token.kind) => (true, at + 1),
         _ => (false, at),
+    }
+}
+
+/// Where the token at a place stands, or the front of the text where there is none.
+fn span_at(input: &Input, at: usize) -> Span
+    ensures { result ≡ grammar.first_span (drop at input.now.tokens.now) }
+{
+    match input.token(at) {
+        Some(token) => token.span,
+        None => Span { from: 0, to: 0 },
     }
 }
 
@@ -167,11 +177,17 @@ fn inferred(input: &Input, at: usize, room: u32) -> Result<(Boxed<Variable>, usi
 pub fn local(input: &Input, at: usize, room: u32) -> Result<(BlockStatement, usize), ParseError>
     ensures { Reads input.now.tokens.now at (read.local_at input.now.text.now room (drop at input.now.tokens.now)) result }
 {
+    let span = span_at(input, at);
     let (is_final, rest) = final_word(input, at);
     let (variable, behind) = variable(input, rest, room)?;
     let (_, end) = semicolon(input, behind)?;
     let variable = variable.into_inner();
-    Ok((BlockStatement::Local { is_final, variable }, end))
+    let local = BlockStatement::Local {
+        span,
+        is_final,
+        variable,
+    };
+    Ok((local, end))
 }
 
 /// An expression, or nothing where a semicolon stands.
@@ -219,10 +235,16 @@ pub fn for_start(
         return Ok((Boxed::new(input.alloc, ForStart::Nothing)?, at));
     }
     if begins_local(input, at) {
+        let span = span_at(input, at);
         let (is_final, rest) = final_word(input, at);
         let (variable, end) = variable(input, rest, room)?;
         let variable = variable.into_inner();
-        let start = Boxed::new(input.alloc, ForStart::Local { is_final, variable })?;
+        let start = ForStart::Local {
+            span,
+            is_final,
+            variable,
+        };
+        let start = Boxed::new(input.alloc, start)?;
         return Ok((start, end));
     }
     let (tree, end) = expr(input, at, room)?;

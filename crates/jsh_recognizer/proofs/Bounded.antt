@@ -1,5 +1,5 @@
 -- That no more frames come to stand one behind another than the bound says.
-use Rattle.std.proofs.Common.{ℕ, zero, suc, ◌+◌, ◌*◌, ◌≡◌, ◌≤◌, ◌<◌, Bool, true, false, ◌&&◌, List, [], ◌∷◌, ◌++◌, length, map, nat_lt, refl, subst, arith}
+use Rattle.std.proofs.Common.{ℕ, zero, suc, ◌+◌, ◌*◌, ◌≡◌, ◌≤◌, ◌<◌, Bool, true, false, ◌&&◌, List, [], ◌∷◌, length, nat_lt, refl, subst, arith}
 use Rattle.std.proofs.lemmas.Bool.{ltb-true}
 use Rattle.jsh_tree.specs.declared.token.TokenKind.{TokenKind}
 use Rattle.jsh_tree.specs.declared.token.TokenKind.TheVariants as token
@@ -10,8 +10,8 @@ use Rattle.jsh_recognizer.specs.declared.frame.Frame.TheVariants as frame
 use Rattle.jsh_recognizer.specs.declared.recognizer.Start.{Start}
 use Rattle.jsh_recognizer.specs.declared.recognizer.Start.TheVariants as start
 use Rattle.jsh_recognizer.specs.Machine.{Move, takes, passes, refuses, Frames, onto, move_of, Steps, expected, moved, passed}
-use Rattle.jsh_recognizer.specs.Recognizing.{AreWithin, depth_at, first}
-use Rattle.jsh_recognizer.specs.Bounds.{least, most, need, AreBounded, load_at, EachBounded}
+use Rattle.jsh_recognizer.specs.Recognizing.{AreWithin, first}
+use Rattle.jsh_recognizer.specs.Bounds.{least, most, need, AreBounded, EachBounded}
 use Rattle.jsh_recognizer.proofs.EachKind.{all_at, kinds, at-any, and-left, and-right}
 
 -- the frames that come in place of one that needs so many need no more than it, but for so many for each part that they are deeper

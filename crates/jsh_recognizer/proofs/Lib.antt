@@ -48,6 +48,6 @@ pub mod Bounded
 pub mod Stepping
 pub mod Advanced
 pub mod Wanting
-pub mod Decided
+pub mod Reaches
 pub mod Refusals
 pub mod Prefixes

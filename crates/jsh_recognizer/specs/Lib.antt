@@ -5,3 +5,5 @@ pub mod Recognizing
 pub mod Bounds
 pub mod Stops
 pub mod Refused
+pub mod Reach
+pub mod Reached

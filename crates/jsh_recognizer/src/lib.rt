@@ -20,6 +20,6 @@ mod stops;
 mod tests;
 
 pub use frame::{Context, Ending, Frame};
-pub use laws::recognizer_takes_prefixes;
+pub use laws::{functions_follow_table, recognizer_takes_prefixes};
 pub use recognizer::{Advance, LIMIT, Recognizer, Start};
 pub use scanner::{End, Scanned, scan};

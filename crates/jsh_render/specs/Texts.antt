@@ -1,5 +1,5 @@
 -- What feedback writes for a reply, in UTF-8, after the feedback of the `jshell` tool (JEP 222).
-use Rattle.std.specs.Prelude.{ℕ, List, [], ◌++◌, codes, decimal}
+use Rattle.std.specs.Prelude.{ℕ, List, [], ◌++◌, Option, None, Some, codes, decimal}
 use Rattle.std.specs.List.{flat_map}
 use Rattle.jsh_tree.specs.declared.diagnostic.Code.{Code}
 use Rattle.jsh_tree.specs.declared.diagnostic.Code.TheVariants as code
@@ -34,14 +34,39 @@ run_of (act.Collect run) = run
 run_of (act.Expire run steps) = run
 run_of _ = 0
 
--- what is wrong, in words
-abbrev pub code_text : Code → List ℕ
-code_text code.NoSnippet = codes "one snippet is needed"
-code_text code.BadToken = codes "bad token"
-code_text code.Unexpected = codes "unexpected text"
-code_text code.TooDeep = codes "nested too deep"
-code_text code.NumberTooBig = codes "number too big"
-code_text code.NotYet = codes "not built yet"
+-- what is wrong, in words, with the name in question where the words have one
+abbrev pub code_text : Code → List ℕ → List ℕ
+code_text code.NoSnippet name = codes "one snippet is needed"
+code_text code.BadToken name = codes "bad token"
+code_text code.Unexpected name = codes "unexpected text"
+code_text code.TooDeep name = codes "nested too deep"
+code_text code.NumberTooBig name = codes "number too big"
+code_text code.Unresolved name = codes "cannot find " ++ name
+code_text code.NoMember name = codes "no member " ++ name
+code_text code.Mismatch name = codes "wrong type"
+code_text code.BadOperand name = codes "bad operand"
+code_text code.NotApplicable name = codes "no " ++ name ++ codes " fits the arguments"
+code_text code.Ambiguous name = codes "call of " ++ name ++ codes " is ambiguous"
+code_text code.TextEquality name = codes "texts are compared by equals"
+code_text code.Duplicate name = name ++ codes " is declared twice"
+code_text code.BadModifier name = codes "modifier " ++ name ++ codes " not allowed here"
+code_text (code.SuperRule number) name = codes "super rule S" ++ decimal number ++ codes " is broken"
+code_text code.BadImport name = name ++ codes " cannot be imported"
+code_text code.AbstractNew name = name ++ codes " is abstract"
+code_text code.Misplaced name = codes "not allowed here"
+code_text code.NotAssigned name = name ++ codes " might not be assigned"
+code_text code.Unreachable name = codes "unreachable statement"
+code_text code.MissingReturn name = codes "missing return"
+code_text code.NotYet name = codes "not built yet"
+
+-- the name in question, and nothing where a diagnostic has none
+abbrev pub name_of : Option (List ℕ) → List ℕ
+name_of None = []
+name_of (Some name) = name
+
+-- what is wrong
+abbrev pub diagnostic_text : Diagnostic → List ℕ
+diagnostic_text diagnostic = code_text diagnostic.code (name_of diagnostic.name)
 
 abbrev pub limit_name : LimitKind → List ℕ
 limit_name limit.Source = codes "Source"
@@ -57,7 +82,7 @@ error_text at text = codes "|  Error at " ++ decimal at.line ++ codes ":" ++ dec
 
 -- the line of a diagnostic in a source
 abbrev pub error_line : List ℕ → Diagnostic → List ℕ
-error_line source diagnostic = error_text (position_of source diagnostic.place) (code_text diagnostic.code)
+error_line source diagnostic = error_text (position_of source diagnostic.place) (diagnostic_text diagnostic)
 
 -- `$1 ==> 3`, and `3` alone where there is no name
 abbrev pub value_line : List ℕ → List ℕ → List ℕ

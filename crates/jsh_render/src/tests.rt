@@ -5,7 +5,7 @@ use jsh_snippet::{
     Subkind, Submitted,
 };
 use jsh_text::{NoMemory, UText};
-use jsh_tree::{Code, Diagnostic, Seq, SrcText};
+use jsh_tree::{Code, Diagnostic, Name, Seq, SrcText};
 use std::alloc::Global;
 use std::test::Fail;
 
@@ -14,9 +14,9 @@ fn rendered(alloc: Global, act: Act, body: ReplyBody) -> Result<Vec<u8>, NoMemor
     render(alloc, &Entry { client: 1, act }, &Reply { output, body })
 }
 
-fn rejected(alloc: Global, source: &str, place: u32) -> Result<Vec<u8>, NoMemory> {
+fn rejected(alloc: Global, source: &str, found: Diagnostic) -> Result<Vec<u8>, NoMemory> {
     let source = SrcText::from_text(alloc, source)?;
-    let diagnostics = Seq::from_vec(vec![in alloc; not_yet(place)]?);
+    let diagnostics = Seq::from_vec(vec![in alloc; found]?);
     rendered(alloc, Act::Submit { source }, submitted(alloc, diagnostics))
 }
 
@@ -78,11 +78,66 @@ fn locates_errors(rt: HostRuntime) -> Result<(), Fail> {
     ];
     for (source, place, want) in rows {
         assert_eq!(rt;
-            rejected(alloc, source, place)?.as_slice(),
+            rejected(alloc, source, not_yet(place))?.as_slice(),
             want.as_bytes(),
             "{want}"
         );
     }
+    Ok(())
+}
+
+/// Each code, with its words for the name `x`.
+const WORDS: [(Code, &str); 22] = [
+    (Code::NoSnippet, "one snippet is needed"),
+    (Code::BadToken, "bad token"),
+    (Code::Unexpected, "unexpected text"),
+    (Code::TooDeep, "nested too deep"),
+    (Code::NumberTooBig, "number too big"),
+    (Code::Unresolved, "cannot find x"),
+    (Code::NoMember, "no member x"),
+    (Code::Mismatch, "wrong type"),
+    (Code::BadOperand, "bad operand"),
+    (Code::NotApplicable, "no x fits the arguments"),
+    (Code::Ambiguous, "call of x is ambiguous"),
+    (Code::TextEquality, "texts are compared by equals"),
+    (Code::Duplicate, "x is declared twice"),
+    (Code::BadModifier, "modifier x not allowed here"),
+    (Code::SuperRule { number: 3 }, "super rule S3 is broken"),
+    (Code::BadImport, "x cannot be imported"),
+    (Code::AbstractNew, "x is abstract"),
+    (Code::Misplaced, "not allowed here"),
+    (Code::NotAssigned, "x might not be assigned"),
+    (Code::Unreachable, "unreachable statement"),
+    (Code::MissingReturn, "missing return"),
+    (Code::NotYet, "not built yet"),
+];
+
+#[test]
+fn words_each_code(rt: HostRuntime) -> Result<(), Fail> {
+    let alloc = rt.alloc();
+    for (code, words) in WORDS {
+        let found = Diagnostic {
+            code,
+            place: 0,
+            name: Some(Name::from_text(alloc, "x")?),
+        };
+        let want = format!(in alloc; "|  Error at 1:1: {words}\n")?;
+        assert_eq!(rt;
+            rejected(alloc, "x", found)?.as_slice(),
+            want.as_bytes(),
+            "{words}"
+        );
+    }
+    let nameless = Diagnostic {
+        code: Code::Unresolved,
+        place: 0,
+        name: None,
+    };
+    let bytes = rejected(alloc, "x", nameless)?;
+    assert_eq!(rt;
+        bytes.as_slice(),
+        b"|  Error at 1:1: cannot find \n".as_slice()
+    );
     Ok(())
 }
 

@@ -1,7 +1,7 @@
 use jsh_tree::{Name, SrcText};
 
 /// What a client asks of the engine.
-#[derive(Clone, Debug, PartialEq, Eq, Drop)]
+#[derive(Drop)]
 pub enum Act {
     /// A further client is numbered.
     Enter,
@@ -28,7 +28,7 @@ pub enum Act {
 }
 
 /// What is dropped.
-#[derive(Clone, Debug, PartialEq, Eq, Drop)]
+#[derive(Drop)]
 pub enum Target {
     /// The snippet with this number.
     Id(u32),
@@ -37,7 +37,7 @@ pub enum Target {
 }
 
 /// What may be asked.
-#[derive(Clone, Debug, PartialEq, Eq, Drop)]
+#[derive(Drop)]
 pub enum Question {
     List,
     ListAll,
@@ -54,7 +54,7 @@ pub enum Question {
 }
 
 /// An act in the history.
-#[derive(Clone, Debug, PartialEq, Eq, Drop)]
+#[derive(Drop)]
 pub struct Entry {
     /// The number of the client that asked.
     pub client: u32,

@@ -2,7 +2,7 @@ use crate::kinds::Status;
 use jsh_text::UText;
 
 /// A change of a snippet (`jdk.jshell.SnippetEvent`).
-#[derive(Clone, Debug, PartialEq, Eq, Drop)]
+#[derive(Drop)]
 pub struct Event {
     pub id: u32,
     /// The snippet's name as feedback shows it.

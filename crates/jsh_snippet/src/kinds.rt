@@ -1,5 +1,5 @@
 /// What a snippet is (`jdk.jshell.Snippet.Kind`).
-#[derive(Clone, Copy, Debug, PartialEq, Eq)]
+#[derive(Clone, Copy)]
 pub enum Kind {
     Import,
     TypeDecl,
@@ -12,7 +12,7 @@ pub enum Kind {
 }
 
 /// What a snippet is more exactly (`jdk.jshell.Snippet.SubKind`).
-#[derive(Clone, Copy, Debug, PartialEq, Eq)]
+#[derive(Clone, Copy)]
 pub enum Subkind {
     SingleTypeImport,
     TypeImportOnDemand,
@@ -38,7 +38,7 @@ pub enum Subkind {
 }
 
 /// How it stands with a snippet (`jdk.jshell.Snippet.Status`).
-#[derive(Clone, Copy, Debug, PartialEq, Eq)]
+#[derive(Clone, Copy)]
 pub enum Status {
     Valid,
     /// Declared, but a name in its body is unresolved.
@@ -53,7 +53,7 @@ pub enum Status {
 }
 
 /// What became of a record.
-#[derive(Clone, Copy, Debug, PartialEq, Eq)]
+#[derive(Clone, Copy)]
 pub enum Fate {
     /// A declaration that is in force.
     Live,

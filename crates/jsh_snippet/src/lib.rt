@@ -28,3 +28,6 @@ pub use mentioned::mentions;
 pub use naming::name_of;
 pub use records::Record;
 pub use replies::{Collected, LimitKind, Line, Outcome, Refusal, Reply, ReplyBody, Submitted};
+
+#[cfg(test)]
+mod tests;

@@ -4,7 +4,7 @@ use jsh_text::{KindName, UText};
 use jsh_tree::{Diagnostic, Modifier, Name, Seq};
 
 /// What a client is answered.
-#[derive(Clone, Debug, PartialEq, Eq, Drop)]
+#[derive(Drop)]
 pub struct Reply {
     /// What the client's threads have printed since its last reply.
     pub output: UText,
@@ -12,7 +12,7 @@ pub struct Reply {
 }
 
 /// The answer to an act.
-#[derive(Clone, Debug, PartialEq, Eq, Drop)]
+#[derive(Drop)]
 pub enum ReplyBody {
     /// The number of the new client.
     Entered {
@@ -44,7 +44,7 @@ pub enum ReplyBody {
 }
 
 /// What became of a snippet that was handed in.
-#[derive(Clone, Debug, PartialEq, Eq, Drop)]
+#[derive(Drop)]
 pub struct Submitted {
     pub id: u32,
     pub kind: Kind,
@@ -66,13 +66,13 @@ pub struct Submitted {
 }
 
 /// A line of an answer.
-#[derive(Clone, Debug, PartialEq, Eq, Drop)]
+#[derive(Drop)]
 pub struct Line {
     pub text: UText,
 }
 
 /// How it stands with a run.
-#[derive(Clone, Debug, PartialEq, Eq, Drop)]
+#[derive(Drop)]
 pub enum Collected {
     /// The steps of its main thread so far.
     Running {
@@ -87,7 +87,7 @@ pub enum Collected {
 }
 
 /// How a run ended.
-#[derive(Clone, Debug, PartialEq, Eq, Drop)]
+#[derive(Drop)]
 pub enum Outcome {
     /// There was no run.
     NoRun,
@@ -126,7 +126,7 @@ pub enum Outcome {
 }
 
 /// Why an act was refused. A refused act changes nothing but the history.
-#[derive(Clone, Debug, PartialEq, Eq, Drop)]
+#[derive(Drop)]
 pub enum Refusal {
     /// So many snippets were numbered.
     NoSuchSnippet { id: u32, count: u32 },
@@ -142,7 +142,7 @@ pub enum Refusal {
 }
 
 /// What is limited.
-#[derive(Clone, Copy, Debug, PartialEq, Eq)]
+#[derive(Clone, Copy)]
 pub enum LimitKind {
     /// Bytes of one source.
     Source,

@@ -4,8 +4,8 @@ use Rattle.std.specs.Option.{option_and_then, option_to_list}
 use Rattle.std.specs.Int.{w32, int_wrapping_neg}
 use Rattle.jsh_tree.specs.declared.tree.Tree.{Tree}
 use Rattle.jsh_tree.specs.declared.tree.Tree.TheVariants as tree
-use Rattle.jsh_tree.specs.declared.tree.AdditiveOperator.{AdditiveOperator}
-use Rattle.jsh_tree.specs.declared.tree.AdditiveOperator.TheVariants.{Plus, Minus}
+use Rattle.jsh_sum.specs.declared.sums.AdditiveOperator.{AdditiveOperator}
+use Rattle.jsh_sum.specs.declared.sums.AdditiveOperator.TheVariants.{Plus, Minus}
 use Rattle.jsh_tree.specs.declared.expression.Literal.{Literal}
 use Rattle.jsh_tree.specs.declared.expression.Literal.TheVariants as literal
 use Rattle.jsh_tree.specs.declared.expression.BinaryOperator.{BinaryOperator}

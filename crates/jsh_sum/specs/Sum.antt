@@ -1,10 +1,10 @@
 -- What a sum's value is.
 use Rattle.std.specs.Prelude.{ℤ, fold}
 use Rattle.std.specs.Int.{w32, int_wrapping_add, int_wrapping_sub}
-use Rattle.jsh_tree.specs.declared.tree.Sum.{Sum}
-use Rattle.jsh_tree.specs.declared.tree.Part.{Part}
-use Rattle.jsh_tree.specs.declared.tree.AdditiveOperator.{AdditiveOperator}
-use Rattle.jsh_tree.specs.declared.tree.AdditiveOperator.TheVariants.{Plus, Minus}
+use Rattle.jsh_sum.specs.declared.sums.Sum.{Sum}
+use Rattle.jsh_sum.specs.declared.sums.Part.{Part}
+use Rattle.jsh_sum.specs.declared.sums.AdditiveOperator.{AdditiveOperator}
+use Rattle.jsh_sum.specs.declared.sums.AdditiveOperator.TheVariants.{Plus, Minus}
 
 -- one step from the left, in 32 bits: what doesn't fit wraps (JLS 15.18.2)
 abbrev pub value_with : ℤ → Part → ℤ

@@ -2,12 +2,13 @@
 #![tactic(auto)]
 
 mod reading;
+mod sums;
 
 ghost use Rattle.std.specs.Prelude.{◌≡◌};
 ghost use Rattle.jsh_sum.specs.Sum.{value_of};
 
-use jsh_tree::{AdditiveOperator, Sum};
 pub use reading::{Reading, sum_of};
+pub use sums::{AdditiveOperator, Part, Sum};
 
 /// The value of a sum as a Java `int`: what doesn't fit wraps (JLS 15.18.2).
 pub fn value_of(sum: &Sum) -> i32

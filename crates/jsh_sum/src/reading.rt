@@ -5,13 +5,12 @@ ghost use Rattle.std.specs.Option.{option_to_list};
 ghost use Rattle.jsh_tree.specs.declared.expression.Expr.{out-Expr};
 ghost use Rattle.jsh_sum.specs.Reading as spec;
 
-use jsh_tree::{
-    AdditiveOperator, BinaryOperator, Expr, Literal, Operation, Part, Seq, Sum, Tree, UnaryOperator,
-};
+use crate::sums::{AdditiveOperator, Part, Sum};
+use jsh_tree::{BinaryOperator, Expr, Literal, Operation, Seq, Tree, UnaryOperator};
 use std::alloc::{AllocError, Global};
 
 /// A sum as it is written.
-#[derive(Clone, Debug, PartialEq, Eq, Drop)]
+#[derive(Debug, Drop)]
 pub struct Reading {
     pub sum: Sum,
     /// The places of the literals that stand only behind a minus, and don't, in order.

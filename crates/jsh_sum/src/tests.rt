@@ -1,5 +1,5 @@
 use super::*;
-use jsh_tree::{Part, Seq};
+use jsh_tree::Seq;
 use std::test::Fail;
 
 #[test]

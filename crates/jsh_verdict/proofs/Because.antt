@@ -3,7 +3,7 @@ use Rattle.std.proofs.Common.{◌≡◌, ◌⊎◌, inl, inr, ℕ, List, [], ◌
 use Rattle.std.specs.Str.{IsUtf8}
 use Rattle.jsh_tree.specs.declared.token.Token.{Token}
 use Rattle.jsh_tree.specs.declared.tree.Tree.{Tree}
-use Rattle.jsh_tree.specs.declared.tree.Sum.{Sum}
+use Rattle.jsh_sum.specs.declared.sums.Sum.{Sum}
 use Rattle.jsh_tree.specs.declared.diagnostic.Diagnostic.{Diagnostic}
 use Rattle.jsh_lex.specs.declared.lexeme.LexFault.{LexFault}
 use Rattle.jsh_lex.specs.Lexis.{tokens, whole}
@@ -12,20 +12,22 @@ use Rattle.jsh_lex.proofs.Places.{tokens_stand}
 use Rattle.jsh_grammar.specs.Productions.{snippet}
 use Rattle.jsh_grammar.specs.Fronts.{IsWhole}
 use Rattle.jsh_recognizer.specs.declared.recognizer.Start.TheVariants as start
-use Rattle.jsh_recognizer.specs.Recognizing.{kinds}
-use Rattle.jsh_recognizer.specs.Refused.{Refused, stuck, too_deep}
-use Rattle.jsh_recognizer.proofs.Decided.{stopped_decided}
+use Rattle.jsh_recognizer.specs.Recognizing.{first, kinds}
+use Rattle.jsh_recognizer.specs.Reach.{Reason, whole as all_read, unfinished, refused, reach}
+use Rattle.jsh_recognizer.specs.Reach as machine
+use Rattle.jsh_recognizer.specs.Reached.{IsReach}
+use Rattle.jsh_recognizer.proofs.Reaches.{reach_of}
 use Rattle.jsh_parse.specs.Reading.{spelled}
 use Rattle.jsh_parse.proofs.TableValues.{values_taken}
 use Rattle.jsh_decl.specs.Declarations.{as_it_stands}
 use Rattle.jsh_decl.proofs.TableSpelled.{declared_spelled}
 use Rattle.jsh_sum.specs.Reading.{sum_of}
 use Rattle.jsh_verdict.specs.declared.verdict.Verdict.TheVariants.{Accepted, Rejected}
-use Rattle.jsh_verdict.specs.Verdict.{source_tree, judged, refusal_of, judged_source, judged_tokens, judged_lexed, verdict}
-use Rattle.jsh_verdict.specs.Causes.{HasTokens, IsNoSource, IsAccepted, IsRejected}
+use Rattle.jsh_verdict.specs.Verdict.{source_tree, judged, refusal_at, refusal, judged_source, judged_tokens, judged_lexed, verdict, tree_of_tokens, tree_of_lexed, tree_of}
+use Rattle.jsh_verdict.specs.Causes.{HasTokens, IsNoSource, IsSourceOf, IsAccepted, IsRejected}
 use Rattle.jsh_verdict.specs.Causes as cause
 use Rattle.jsh_verdict.proofs.Trees.{source_found, source_missing}
-use Rattle.jsh_verdict.proofs.Judged.{reading_accepted, reading_rejected}
+use Rattle.jsh_verdict.proofs.Sums.{reading_accepted, reading_rejected}
 
 module _ (source : List ℕ) where
   source_accepted : (sum : Sum) (ts : List Token) → HasTokens source ts → (found : Option Tree) → source_tree source ts ≡ found →
@@ -49,13 +51,22 @@ module _ (source : List ℕ) where
       let found = declared_spelled source snippet 256 ts is (values_taken source ts utf8 (spelled ts stand)) in
       none found.0 (as_it_stands found.1)
 
-  refused_because : (ds : List Diagnostic) (ts : List Token) → IsUtf8 source → IsNoSource source ts →
-      (found : IsWhole snippet 256 (kinds ts) ⊎ Refused snippet ts) → Rejected (refusal_of source ts found ∷ []) ≡ Rejected ds → IsRejected source ds
-  refused_because ds ts utf8 no_source (inl is_whole) is = absurd (not_whole ts utf8 no_source is_whole)
-  refused_because ds ts utf8 no_source (inr (stuck read within before stops)) is = cause.unexpected ts read no_source before stops cc
-  refused_because ds ts utf8 no_source (inr (too_deep read before deeper)) is = cause.too_deep ts read no_source before deeper cc
+  refused_at_because : (ds : List Diagnostic) (ts : List Token) → IsUtf8 source → IsNoSource source ts → (read : ℕ) (reason : Reason) →
+      IsReach snippet 256 ts (record { read = read; reason = reason }) →
+      Rejected (refusal_at source ts (record { read = read; reason = reason }) ∷ []) ≡ Rejected ds → IsRejected source ds
+  refused_at_because ds ts utf8 no_source read all_read found is = absurd (not_whole ts utf8 no_source found.1.1)
+  refused_at_because ds ts utf8 no_source read unfinished found is = cause.unexpected ts read no_source found.0 found.1.1 cc
+  refused_at_because ds ts utf8 no_source read refused found is = cause.unexpected ts read no_source found.0 found.1.1 cc
+  refused_at_because ds ts utf8 no_source read machine.too_deep found is = cause.too_deep ts read no_source found.0 found.1.1 cc
 
-  tree_rejected : (ds : List Diagnostic) (tree : Tree) → cause.IsSourceOf source tree → judged tree ≡ Rejected ds → IsRejected source ds
+  refused_because : (ds : List Diagnostic) (ts : List Token) → IsUtf8 source → IsNoSource source ts → Rejected (refusal source ts ∷ []) ≡ Rejected ds →
+      IsRejected source ds
+  unfolding refusal
+  refused_because ds ts utf8 no_source is =
+      let found = reach 256 (first start.Snippet) (kinds ts) in
+      refused_at_because ds ts utf8 no_source found.read found.reason (reach_of start.Snippet ts) is
+
+  tree_rejected : (ds : List Diagnostic) (tree : Tree) → IsSourceOf source tree → judged tree ≡ Rejected ds → IsRejected source ds
   tree_rejected ds tree is_source is = elim (reading_rejected (sum_of tree) ds is) [
     | inl none ↦ cause.not_yet tree is_source none.0 none.1
     | inr read ↦ cause.too_big tree read.0 is_source read.1 read.2 read.3
@@ -64,7 +75,7 @@ module _ (source : List ℕ) where
   source_rejected : (ds : List Diagnostic) (ts : List Token) → IsUtf8 source → HasTokens source ts → (found : Option Tree) → source_tree source ts ≡ found →
       judged_source source ts found ≡ Rejected ds → IsRejected source ds
   source_rejected ds ts utf8 has None read is =
-      refused_because ds ts utf8 (has, source_missing source ts read) (stopped_decided start.Snippet ts) is
+      refused_because ds ts utf8 (has, source_missing source ts read) is
   source_rejected ds ts utf8 has (Some tree) read is = tree_rejected ds tree (ts, has, source_found source ts tree read) is
 
   tokens_rejected : (ds : List Diagnostic) (ts : List Token) → IsUtf8 source → tokens source ≡ whole ts → judged_tokens source ts ≡ Rejected ds →
@@ -85,3 +96,18 @@ module _ (source : List ℕ) where
   pub rejected_because : (ds : List Diagnostic) → IsUtf8 source → verdict source ≡ Rejected ds → IsRejected source ds
   unfolding verdict
   rejected_because ds utf8 is = lexed_rejected ds (tokens source).tokens (tokens source).fault utf8 refl is
+
+  -- ---- trees
+
+  tokens_tree : (ts : List Token) (tree : Tree) → tokens source ≡ whole ts → tree_of_tokens source ts ≡ Some tree → IsSourceOf source tree
+  tokens_tree [] tree lexed is = absurd cc
+  tokens_tree (t ∷ ts) tree lexed is = (t ∷ ts, (lexed, λ none. absurd cc), source_found source (t ∷ ts) tree is)
+
+  lexed_tree : (ts : List Token) (fault : Option (LexFault × ℕ)) (tree : Tree) → tokens source ≡ record { tokens = ts; fault = fault } →
+      tree_of_lexed source (record { tokens = ts; fault = fault }) ≡ Some tree → IsSourceOf source tree
+  lexed_tree ts None tree lexed is = tokens_tree ts tree lexed is
+  lexed_tree ts (Some fault) tree lexed is = absurd cc
+
+  pub tree_found : (tree : Tree) → tree_of source ≡ Some tree → IsSourceOf source tree
+  unfolding tree_of
+  tree_found tree is = lexed_tree (tokens source).tokens (tokens source).fault tree refl is

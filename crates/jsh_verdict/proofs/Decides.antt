@@ -1,8 +1,8 @@
 -- Each cause leads to its verdict.
-use Rattle.std.proofs.Common.{◌≡◌, ◌≢◌, ℕ, List, [], ◌∷◌, Option, Some, refl, ap, sym, ◌∙◌}
+use Rattle.std.proofs.Common.{◌≡◌, ◌≢◌, ℕ, List, [], ◌∷◌, Option, Some, None, refl, ap, sym, ◌∙◌}
 use Rattle.jsh_tree.specs.declared.token.Token.{Token}
 use Rattle.jsh_tree.specs.declared.tree.Tree.{Tree}
-use Rattle.jsh_tree.specs.declared.tree.Sum.{Sum}
+use Rattle.jsh_sum.specs.declared.sums.Sum.{Sum}
 use Rattle.jsh_tree.specs.declared.diagnostic.Diagnostic.{Diagnostic}
 use Rattle.jsh_tree.specs.declared.token.TokenKind.{TokenKind}
 use Rattle.jsh_tree.specs.declared.diagnostic.Code.TheVariants as code
@@ -14,10 +14,10 @@ use Rattle.jsh_parse.specs.Refusals.{IsRefusal}
 use Rattle.jsh_decl.specs.Declarations.{IsSource}
 use Rattle.jsh_verdict.specs.Diagnostics.{diagnostic, lexical_code}
 use Rattle.jsh_verdict.specs.declared.verdict.Verdict.TheVariants.{Accepted, Rejected}
-use Rattle.jsh_verdict.specs.Verdict.{source_tree, judged, judged_reading, judged_source, judged_tokens, judged_lexed, refusal, verdict}
+use Rattle.jsh_verdict.specs.Verdict.{source_tree, judged, judged_reading, judged_source, judged_tokens, judged_lexed, refusal, verdict, tree_of_tokens, tree_of_lexed, tree_of}
 use Rattle.jsh_verdict.specs.Causes.{HasTokens, IsNoSource, IsSourceOf, IsAccepted, IsRejected, no_snippet, faulty, unexpected, too_deep, not_yet, too_big}
 use Rattle.jsh_verdict.proofs.Trees.{source_read, no_source_read}
-use Rattle.jsh_verdict.proofs.Judged.{rejects_sum}
+use Rattle.jsh_verdict.proofs.Sums.{rejects_sum}
 use Rattle.jsh_verdict.proofs.Refusing.{refused_stuck, refused_deep}
 
 judged_by_tree : (source : List ℕ) (ts : List Token) → ts ≢ [] → judged_tokens source ts ≡ judged_source source ts (source_tree source ts)
@@ -50,7 +50,35 @@ rejects source ds (not_yet tree is_source none is) = with_tree source tree is_so
 rejects source ds (too_big tree reading is_source read some is) =
     with_tree source tree is_source ∙ ap judged_reading read ∙ rejects_sum reading.sum reading.too_big some ∙ ap Rejected (sym is)
 
--- what `judge` finds
+-- ---- trees
+
+tree_by_tokens : (source : List ℕ) (ts : List Token) → ts ≢ [] → tree_of_tokens source ts ≡ source_tree source ts
+tree_by_tokens source [] some = absurd (some refl)
+tree_by_tokens source (t ∷ ts) some = refl
+
+tree_by : (source : List ℕ) (ts : List Token) → HasTokens source ts → tree_of source ≡ source_tree source ts
+unfolding tree_of
+tree_by source ts has = ap (tree_of_lexed source) has.0 ∙ tree_by_tokens source ts has.1
+
+pub tree_read : (source : List ℕ) (tree : Tree) → IsSourceOf source tree → tree_of source ≡ Some tree
+tree_read source tree (ts, has, is) = tree_by source ts has ∙ source_read source ts tree is
+
+-- ---- what `judge` finds
+
+pub tree_on_fault : (source : List ℕ) (before : List Token) (kind : LexFault) (place : ℕ) →
+    tokens source ≡ record { tokens = before; fault = Some (kind, place) } → tree_of source ≡ None
+unfolding tree_of
+tree_on_fault source before kind place lexed = ap (tree_of_lexed source) lexed
+
+pub tree_on_nothing : (source : List ℕ) (ts : List Token) → tokens source ≡ whole ts → ts ≡ [] → tree_of source ≡ None
+unfolding tree_of
+tree_on_nothing source ts lexed none = ap (tree_of_lexed source) (lexed ∙ ap whole none)
+
+pub tree_on_tree : (source : List ℕ) (ts : List Token) (tree : Tree) → HasTokens source ts → IsSource source 256 ts tree → tree_of source ≡ Some tree
+tree_on_tree source ts tree has is = tree_read source tree (ts, has, is)
+
+pub tree_on_none : (source : List ℕ) (ts : List Token) → IsNoSource source ts → tree_of source ≡ None
+tree_on_none source ts (has, none) = tree_by source ts has ∙ no_source_read source ts none
 
 pub verdict_on_fault : (source : List ℕ) (before : List Token) (kind : LexFault) (place : ℕ) →
     tokens source ≡ record { tokens = before; fault = Some (kind, place) } → verdict source ≡ Rejected (diagnostic (lexical_code kind) place ∷ [])

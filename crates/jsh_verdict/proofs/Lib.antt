@@ -1,5 +1,5 @@
 pub mod Trees
-pub mod Judged
+pub mod Sums
 pub mod Refusing
 pub mod Because
 pub mod Decides

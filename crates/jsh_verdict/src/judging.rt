@@ -1,12 +1,12 @@
 //! The verdict on a source.
 
-ghost use Rattle.std.specs.Prelude.{◌≡◌, ◌<◌, ◌^◌, ◌∷◌, [], length, map, IfOk};
+ghost use Rattle.std.specs.Prelude.{◌≡◌, ◌<◌, ◌^◌, ◌∷◌, [], length, map, IfOk, None, Some};
 ghost use Rattle.jsh_tree.specs.declared.diagnostic.Code.TheVariants as code;
-ghost use Rattle.jsh_verdict.specs.Verdict.{judged, verdict};
+ghost use Rattle.jsh_verdict.specs.Verdict.{judged, tree_of, verdict};
 ghost use Rattle.jsh_verdict.specs.Diagnostics as spec;
 ghost use Rattle.jsh_verdict.specs.declared.verdict.Verdict.TheVariants.{Rejected as rejection};
 
-use crate::verdict::Verdict;
+use crate::verdict::{Judged, Verdict};
 use jsh_decl::parse_source;
 use jsh_lex::{LexError, LexFault, lex};
 use jsh_parse::ParseError;
@@ -16,35 +16,59 @@ use jsh_tree::{Code, Diagnostic, Seq, Tree};
 use std::alloc::Global;
 
 /// What becomes of a source.
-pub fn judge(alloc: Global, source: &str) -> Result<Verdict, NoMemory>
+pub fn judge(alloc: Global, source: &str) -> Result<Judged, NoMemory>
     // A place can count its bytes.
     requires { length source.now < 2 ^ 32 }
-    ensures { IfOk result (λ v. v ≡ verdict source.now) }
+    ensures tree { IfOk result (λ j. j.tree ≡ tree_of source.now) }
+    ensures verdict { IfOk result (λ j. j.verdict ≡ verdict source.now) }
 {
     let tokens = match lex(alloc, source) {
         Ok(tokens) => tokens,
         Err(error) => match error {
             LexError::NoMemory => return Err(NoMemory),
             LexError::Fault { kind, place, .. } => {
-                return rejected(alloc, lexical_code(kind), place);
+                return refused(alloc, lexical_code(kind), place);
             }
         },
     };
     if tokens.is_empty() {
-        return rejected(alloc, Code::NoSnippet, 0);
+        return refused(alloc, Code::NoSnippet, 0);
     }
     match parse_source(alloc, source, &tokens) {
-        Ok(tree) => judge_tree(alloc, &tree),
+        Ok(tree) => judge_tree(alloc, tree),
         Err(error) => match error {
             ParseError::NoMemory => Err(NoMemory),
-            ParseError::Wanted { place, .. } => rejected(alloc, Code::Unexpected, place),
-            ParseError::TooDeep { .. } => rejected(alloc, Code::TooDeep, 0),
+            ParseError::Wanted { place, .. } => refused(alloc, Code::Unexpected, place),
+            ParseError::TooDeep { .. } => refused(alloc, Code::TooDeep, 0),
         },
     }
 }
 
+/// A source that has no tree.
+fn refused(alloc: Global, code: Code, place: u32) -> Result<Judged, NoMemory>
+    ensures tree { IfOk result (λ j. j.tree ≡ None) }
+    ensures verdict { IfOk result (λ j. j.verdict ≡ rejection (spec.diagnostic code place ∷ [])) }
+{
+    Ok(Judged {
+        tree: None,
+        verdict: rejected(alloc, code, place)?,
+    })
+}
+
 /// What becomes of a source that has a tree.
-fn judge_tree(alloc: Global, tree: &Tree) -> Result<Verdict, NoMemory>
+fn judge_tree(alloc: Global, tree: Tree) -> Result<Judged, NoMemory>
+    ensures tree { IfOk result (λ j. j.tree ≡ Some tree) }
+    ensures verdict { IfOk result (λ j. j.verdict ≡ judged tree) }
+{
+    let verdict = verdict_of(alloc, &tree)?;
+    Ok(Judged {
+        tree: Some(tree),
+        verdict,
+    })
+}
+
+/// What becomes of a tree.
+fn verdict_of(alloc: Global, tree: &Tree) -> Result<Verdict, NoMemory>
     ensures { IfOk result (λ v. v ≡ judged tree.now) }
 {
     let Some(Reading { sum, too_big }) = sum_of(alloc, tree)? else {

@@ -1,4 +1,4 @@
-//! What becomes of a source: a sum, or what is wrong with it.
+//! What becomes of a source: its tree, and a sum, or what is wrong with it.
 //!
 //! `specs/Causes.antt` says why a source is accepted or rejected, in words of the lexis and the
 //! grammar. `specs/Verdict.antt` has the verdict as a function, and a law ties the two.
@@ -10,7 +10,7 @@ mod verdict;
 
 pub use judging::judge;
 pub use laws::verdicts_have_causes;
-pub use verdict::Verdict;
+pub use verdict::{Judged, Verdict};
 
 #[cfg(test)]
 mod tests;

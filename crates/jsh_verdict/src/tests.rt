@@ -8,7 +8,7 @@ use std::test::Fail;
 
 fn verdict_on(rt: &impl Abort, alloc: Global, source: &str) -> Result<Verdict, NoMemory> {
     assert!(rt; source.len() < 0x1_0000_0000);
-    judge(alloc, source)
+    Ok(judge(alloc, source)?.verdict)
 }
 
 /// Sources that are sums, and their values.

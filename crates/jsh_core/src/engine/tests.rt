@@ -1,12 +1,13 @@
 ghost use Rattle.std.specs.Prelude.{◌≡◌, ◌<◌};
 
 use super::*;
-use jsh_snippet::Line;
-use jsh_text::UText;
-use jsh_tree::Seq;
+use jsh_snippet::{Act, Question, ReplyBody};
+use jsh_tree::SrcText;
 use std::marker::Brand;
 use std::sync::ledger::Blank;
 use std::test::Fail;
+
+fn takes_send<T: Send>(_: &T) {}
 
 /// One client more enters, hands in a line that is no command, and leaves, and the engine is closed.
 /// The answer to the line comes with it.
@@ -46,11 +47,18 @@ fn visited<L: Ledger>(alloc: Global, blank: Blank) -> Result<(Core, Reply), NoMe
 fn a_client_enters_and_leaves(rt: HostRuntime) -> Result<(), Fail> {
     let alloc = rt.alloc();
     let (core, answer) = visited::<Brand>(alloc, Blank::new(1))?;
-    let line = Line {
-        text: UText::from_str(alloc, "|  Invalid command: /\u{1F40B}")?,
+    takes_send(&core);
+    let ReplyBody::Answered(lines) = &answer.body else {
+        return Err(Fail::from("an answer"));
     };
-    let lines = Seq::from_vec(vec![in alloc; line]?);
-    assert_eq!(rt; answer.body, ReplyBody::Answered(lines));
+    let [line] = lines.as_slice() else {
+        return Err(Fail::from("one line"));
+    };
+    let text = line.text.to_utf8(alloc)?;
+    assert_eq!(rt;
+        text.as_slice(),
+        "|  Invalid command: /\u{1F40B}".as_bytes()
+    );
     assert_eq!(rt;
         (core.len(), core.numbers(), core.source_bytes()),
         (4, 2, 5)
@@ -58,11 +66,15 @@ fn a_client_enters_and_leaves(rt: HostRuntime) -> Result<(), Fail> {
     assert_eq!(rt; core.closed_at(), Some(3));
     assert_eq!(rt; core.run(1), None);
     assert_eq!(rt; core.states().len(), 0);
-    let left = Entry {
-        client: 1,
-        act: Act::Leave,
-    };
-    assert_eq!(rt; core.entry(2), Some(&left));
+    assert!(rt;
+        matches!(
+            core.entry(2),
+            Some(Entry {
+                client: 1,
+                act: Act::Leave,
+            })
+        )
+    );
     assert_eq!(rt; core.into_history().len(), 4);
     Ok(())
 }

@@ -38,6 +38,7 @@ returns-then-begins_local c =
           simp (
             sym c.final_word-is_final.ensures.rest,
             sym c.final_word-is_final.ensures.value,
+            c.span_at-span.ensures,
             c.in_ok-variable.ensures.1,
             c.in_ok-start.ensures,
             c.into_inner-variable.ensures,

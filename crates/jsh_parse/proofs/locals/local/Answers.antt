@@ -37,6 +37,7 @@ returns c = (
     c.in_ok-variable.ensures.1,
     c.in_ok-end.ensures.1,
     sym c.final_word-is_final.ensures.value,
+    c.span_at-span.ensures,
     c.into_inner-variable.ensures,
   ),
 )

@@ -1,32 +1,61 @@
--- The reply of a step has its cause.
-use Rattle.std.proofs.Common.{Ok, ap, ◌∙◌}
-use Rattle.jsh_snippet.specs.declared.acts.Act.TheVariants as act
-use Rattle.jsh_snippet.specs.declared.acts.Question.TheVariants as question
+-- The log and the parts stand for the history with the entry that was done.
+use Rattle.std.proofs.Common.{◌≤◌, ◌+◌, length, vec_capacity, ap, subst, ◌∙◌, arith}
+use Rattle.jsh_snippet.specs.declared.acts.Entry.{Entry}
+use Rattle.jsh_core.specs.State.{State, Stepped}
+use Rattle.jsh_core.specs.Step.{act_step}
+use Rattle.jsh_core.specs.History.{state_of, Allows}
 use Rattle.jsh_core.proofs.CauseLemmas.{reply-causes}
+use Rattle.jsh_core.proofs.KeptLemmas.{IsRoomy, StandsFor-cut, StandsFor-kept}
+use Rattle.jsh_core.proofs.StandsLemmas.{IsLonger, room-for}
 use Rattle.jsh_core.proofs.engine.Core.apply.Goals as goal
 
-pub returns-in-Enter-clause-causes : goal.returns-in-Enter-clause-causes
-returns-in-Enter-clause-causes g c = reply-causes c.args.self.now c.args.entry act.Enter c.apply_enter.result c.in-Enter.is c.requires tt c.apply_enter.ensures.reply
+pub push_entry-requires-clause-room : goal.push_entry-requires-clause-room
+push_entry-requires-clause-room g c =
+    let allowed : Allows c.self.inside.log.history.items c.args.entry = rw c.self.view_is c.requires in
+    let room : length c.make_room.new.log.history.items + 1 ≤ vec_capacity c.make_room.new.log.history =
+    room-for c.self.inside.log c.make_room.new.log c.self.inside.parts c.args.entry c.self.invariant allowed c.make_room.ensures.items c.make_room.ensures.capacity c.in_ok-make_room.ensures.room in
+    omega (arith, c.make_room.new.log.history.ok.0, room)
 
-pub returns-in-Submit-clause-causes : goal.returns-in-Submit-clause-causes
-returns-in-Submit-clause-causes g c =
-    reply-causes c.args.self.now c.args.entry (act.Submit c.in-Submit.source) c.apply_submit.result c.in-Submit.is c.requires c.apply_submit.ensures.utf8 c.apply_submit.ensures.reply
+pub invariant_of-self-in-Ok : goal.invariant_of-self-in-Ok
+invariant_of-self-in-Ok g c =
+    let allowed : Allows c.self.inside.log.history.items c.args.entry = rw c.self.view_is c.requires in
+    let roomy : IsRoomy c.self.inside.log c.make_room.new.log c.args.entry.act = record {
+      items = c.make_room.ensures.items;
+      bytes = c.make_room.ensures.bytes;
+      closed = c.make_room.ensures.closed;
+      capacity = c.make_room.ensures.capacity;
+      room = c.in_ok-make_room.ensures.room;
+    } in
+    let longer : IsLonger c.make_room.new.log c.push_entry.new.log c.kept_entry.result = record {
+      items = c.push_entry.ensures.items;
+      capacity = c.push_entry.ensures.capacity;
+      bytes = c.push_entry.ensures.bytes;
+      closed = c.push_entry.ensures.closed;
+    } in
+    StandsFor-kept c.self.inside.log c.make_room.new.log c.push_entry.new.log c.args.entry c.self.inside.parts c.perform.new.parts c.in-Ok.reply c.self.invariant allowed roomy
+    (subst (λ (e : Entry). IsLonger c.make_room.new.log c.push_entry.new.log e) c.kept_entry.ensures longer) c.in-Ok.ensures.done
 
-pub returns-in-Turn-clause-causes : goal.returns-in-Turn-clause-causes
-returns-in-Turn-clause-causes g c =
-    reply-causes c.args.self.now c.args.entry (act.Turn c.in-Turn.thread c.in-Turn.steps) c.apply_turn.result c.in-Turn.is c.requires tt c.apply_turn.ensures.reply
+pub invariant_of-self-then-cut-gt0 : goal.invariant_of-self-then-cut-gt0
+invariant_of-self-then-cut-gt0 g c =
+    let allowed : Allows c.self.inside.log.history.items c.args.entry = rw c.self.view_is c.requires in
+    let roomy : IsRoomy c.self.inside.log c.make_room.new.log c.args.entry.act = record {
+      items = c.make_room.ensures.items;
+      bytes = c.make_room.ensures.bytes;
+      closed = c.make_room.ensures.closed;
+      capacity = c.make_room.ensures.capacity;
+      room = c.in_ok-make_room.ensures.room;
+    } in
+    let longer : IsLonger c.make_room.new.log c.push_entry-then-cut-gt0.new.log c.with_steps.result = record {
+      items = c.push_entry-then-cut-gt0.ensures.items;
+      capacity = c.push_entry-then-cut-gt0.ensures.capacity;
+      bytes = c.push_entry-then-cut-gt0.ensures.bytes;
+      closed = c.push_entry-then-cut-gt0.ensures.closed;
+    } in
+    StandsFor-cut c.self.inside.log c.make_room.new.log c.push_entry-then-cut-gt0.new.log c.args.entry c.self.inside.parts c.perform.new.parts c.in-Err.cut.done c.self.invariant allowed roomy
+    (subst (λ (e : Entry). IsLonger c.make_room.new.log c.push_entry-then-cut-gt0.new.log e) c.with_steps.ensures longer) c.if-cut-gt0.true c.in-Err.ensures.cut
 
-pub returns-in-Collect-clause-causes : goal.returns-in-Collect-clause-causes
-returns-in-Collect-clause-causes g c =
-    reply-causes c.args.self.now c.args.entry (act.Collect c.in-Collect.run') c.apply_collect.result c.in-Collect.is c.requires tt c.apply_collect.ensures.reply
-
-pub returns-in-Leave-clause-causes : goal.returns-in-Leave-clause-causes
-returns-in-Leave-clause-causes g c = reply-causes c.args.self.now c.args.entry act.Leave (Ok c.apply_leave.result) c.in-Leave.is c.requires tt c.apply_leave.ensures.reply
-
-pub returns-in-Close-clause-causes : goal.returns-in-Close-clause-causes
-returns-in-Close-clause-causes g c = reply-causes c.args.self.now c.args.entry act.Close (Ok c.apply_close.result) c.in-Close.is c.requires tt c.apply_close.ensures.reply
-
-pub returns-in-Invalid-clause-causes : goal.returns-in-Invalid-clause-causes
-returns-in-Invalid-clause-causes g c =
-    reply-causes c.args.self.now c.args.entry (act.Ask (question.Invalid c.in-Invalid.line)) c.apply_invalid.result
-    (c.in-Ask.is ∙ ap act.Ask c.in-Invalid.is) c.requires tt c.apply_invalid.ensures.reply
+pub returns-in-Ok-clause-causes : goal.returns-in-Ok-clause-causes
+returns-in-Ok-clause-causes g c =
+    reply-causes c.args.self.now c.args.entry c.in-Ok.reply c.requires c.in-Ok.ensures.utf8
+    (ap (λ (s : Stepped). s.reply) c.in-Ok.ensures.done.step
+    ∙ ap (λ (s : State). (act_step s c.args.entry.client c.args.entry.act).reply) (c.self.invariant.state ∙ ap state_of c.self.view_is))
