@@ -1,5 +1,6 @@
 //! What a client asks of the engine and what it is answered, as plain data: kinds, statuses and fates
-//! of snippets, their records and events, acts with their entries, and replies.
+//! of snippets, their records and events, acts with their entries, and replies. And what a tree is as
+//! a snippet: its kind, key, header and name.
 //!
 //! A history is a list of entries. These types have no meaning of their own: the engine's definitions
 //! say what an entry does and what is replied.
@@ -15,8 +16,6 @@ mod mentioned;
 mod naming;
 mod records;
 mod replies;
-#[cfg(test)]
-mod tree_tests;
 
 pub use acts::{Act, Entry, Question, Target};
 pub use classes::{ExpressionType, subkind_of};
@@ -31,3 +30,5 @@ pub use replies::{Collected, LimitKind, Line, Outcome, Refusal, Reply, ReplyBody
 
 #[cfg(test)]
 mod tests;
+#[cfg(test)]
+mod tree_tests;
