@@ -29,6 +29,6 @@ pub use records::Record;
 pub use replies::{Collected, LimitKind, Line, Outcome, Refusal, Reply, ReplyBody, Submitted};
 
 #[cfg(test)]
-mod record_tests;
-#[cfg(test)]
 mod tests;
+#[cfg(test)]
+mod tree_tests;
