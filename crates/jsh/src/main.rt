@@ -2,14 +2,11 @@
 #![tactic(auto)]
 
 use jsh_io::{OpenGate, RealDesk};
-use jsh_shell::run;
+use jsh_shell::{MEMORY_SHORT, run};
 use std::alloc::Global;
 use std::env::args;
 use std::io;
 use std::process::ExitCode;
-
-/// The status for want of memory.
-const NO_MEMORY: u8 = 5;
 
 /// The words of the command line, without the program's name.
 fn words_after_name(alloc: Global, all: std::env::Args) -> io::Result<Vec<String>> {
@@ -31,14 +28,19 @@ fn faulty_line(alloc: Global) -> io::Result<Vec<String>> {
     Ok(words)
 }
 
-fn main(rt: HostRuntime) -> ExitCode {
-    let words = match args(&rt) {
+/// The words of the command line. The error is want of memory.
+fn command_line(rt: &HostRuntime) -> io::Result<Vec<String>> {
+    match args(rt) {
         Ok(all) => words_after_name(rt.alloc(), all),
+        Err(error) if error.kind() == io::ErrorKind::OutOfMemory => Err(error),
         Err(_unreadable) => faulty_line(rt.alloc()),
-    };
-    let words = match words {
+    }
+}
+
+fn main(rt: HostRuntime) -> ExitCode {
+    let words = match command_line(&rt) {
         Ok(words) => words,
-        Err(_refused) => return ExitCode::from(NO_MEMORY),
+        Err(_refused) => return ExitCode::from(MEMORY_SHORT),
     };
     let mut desk = RealDesk::new(rt);
     let report = run(&rt, rt.alloc(), words.as_slice(), &mut desk, &OpenGate);

@@ -1,8 +1,9 @@
 pub mod Onward
 pub mod Walk
-pub mod Lengths
 pub mod ActLemmas
 pub mod ServeLemmas
+pub mod Servable
+pub mod CuttingLemmas
 pub mod PieceLemmas
 pub mod ReadLemmas
 pub mod RunLemmas

@@ -3,14 +3,12 @@ use Rattle.std.proofs.Common.{◌≡◌, ◌≢◌, ℕ, ◌==◌, ◌⊎◌, if
 use Rattle.jsh_snippet.specs.declared.acts.Act.{Act}
 use Rattle.jsh_snippet.specs.declared.acts.Act.TheVariants as act
 use Rattle.jsh_snippet.specs.declared.acts.Entry.{Entry}
-use Rattle.jsh_snippet.specs.declared.acts.Question.TheVariants as question
 use Rattle.jsh_snippet.specs.declared.replies.ReplyBody.{ReplyBody}
 use Rattle.jsh_cut.specs.declared.command.Command.{Command}
-use Rattle.jsh_cut.specs.declared.command.Command.TheVariants.{Eval, Invalid}
 use Rattle.jsh_core.specs.declared.world.RunView.{RunView}
 use Rattle.jsh_core.specs.State.{State}
 use Rattle.jsh_core.specs.Step.{step}
-use Rattle.jsh_shell.specs.Progress.{Phase, Progress, IsTurn, Submits, Asks, OwnGoes, Goes, Follows}
+use Rattle.jsh_shell.specs.Progress.{Phase, Progress, IsTurn, TakesNext, Evaluates, GoesOn, OwnGoes, Goes, Follows}
 use Rattle.jsh_shell.specs.Progress.Phase.{Between, Evaluating, CutShort}
 
 -- two progresses that are one, but that a turn was cut short in one of them
@@ -50,8 +48,8 @@ alike-left : (q r : Progress) → Alike q r → Alike (record q { has_left = tru
 alike-left q r a = record { phase = a.phase; commands = a.commands; last_turn = a.last_turn; cursor = a.cursor; limited = a.limited; has_left = refl }
 
 -- a turn is of one thread, whichever way it ended
-turn : (budget run used thread steps : ℕ) (s after : State) (p q r : Progress) → IsTurn budget run used thread steps s after p q → IsTurn budget run used thread steps s after p r → Alike q r
-turn budget run used thread steps s after p q r f g = record {
+turn : (budget run used thread steps : ℕ) (s after : State) (reply : ReplyBody) (p q r : Progress) → IsTurn budget run used thread steps s after reply p q → IsTurn budget run used thread steps s after reply p r → Alike q r
+turn budget run used thread steps s after reply p q r f g = record {
   phase = elim f.phase [
     | inl e ↦ elim g.phase [ inl d ↦ inl (e ∙ sym d) | inr d ↦ inr (inr d) ]
     | inr e ↦ inr (inl e)
@@ -69,50 +67,48 @@ turn budget run used thread steps s after p q r f g = record {
     cursor : q.cursor ≡ r.cursor
     cursor = subst (λ (view : RunView). q.cursor ≡ (if thread == view.main then p.cursor else thread)) same f.picked.3 ∙ sym g.picked.3
 
-submits : (s : State) (p q r : Progress) (cs : List Command) (source : List ℕ) (reply : ReplyBody) → Submits s p cs source reply q → Submits s p cs source reply r → q ≡ r
-submits s p q r [] source reply f g = absurd f
-submits s p q r (Eval text ∷ cs) source reply f g = f.1 ∙ sym g.1
-submits s p q r (Invalid text ∷ cs) source reply f g = absurd f
+takes : (p q r : Progress) (cs : List Command) (what : Act) (reply : ReplyBody) → TakesNext p cs what reply q → TakesNext p cs what reply r → q ≡ r
+takes p q r [] what reply f g = absurd f
+takes p q r (command ∷ cs) what reply f g = f.1 ∙ sym g.1
 
-asks : (p q r : Progress) (cs : List Command) (line : List ℕ) (reply : ReplyBody) → Asks p cs line reply q → Asks p cs line reply r → q ≡ r
-asks p q r [] line reply f g = absurd f
-asks p q r (Eval text ∷ cs) line reply f g = absurd f
-asks p q r (Invalid text ∷ cs) line reply f g = f.1 ∙ sym g.1
+evaluates : (budget : ℕ) (s : State) (p q r : Progress) (run used : ℕ) (what : Act) (after : State) (reply : ReplyBody) →
+    Evaluates budget s p run used what after reply q → Evaluates budget s p run used what after reply r → Alike q r
+evaluates budget s p q r run used (act.Turn thread steps) after reply f g = turn budget run used thread steps s after reply p q r f g
+evaluates budget s p q r run used (act.Collect asked) after reply f g = alike-equal q r (f.3 ∙ sym g.3)
+evaluates budget s p q r run used what after reply f g = absurd f
 
-left : (budget : ℕ) (s : State) (p q : Progress) (at : Phase) (after : State) (reply : ReplyBody) → OwnGoes budget s p at act.Leave after reply q → q ≡ record p { has_left = true }
-left budget s p q Between after reply f = f
-left budget s p q (Evaluating run used) after reply f = f
-left budget s p q CutShort after reply f = f
+goes-on : (budget : ℕ) (s : State) (p q r : Progress) (at : Phase) (what : Act) (after : State) (reply : ReplyBody) →
+    GoesOn budget s p at what after reply q → GoesOn budget s p at what after reply r → Alike q r
+goes-on budget s p q r Between what after reply f g = alike-equal q r (takes p q r p.commands what reply f g)
+goes-on budget s p q r (Evaluating run used) what after reply f g = evaluates budget s p q r run used what after reply f g
+goes-on budget s p q r CutShort what after reply f g = absurd f
 
 -- an own entry
-own : (budget : ℕ) (s : State) (p q r : Progress) (at : Phase) (what : Act) (after : State) (reply : ReplyBody) → OwnGoes budget s p at what after reply q → OwnGoes budget s p at what after reply r → Alike q r
-own budget s p q r Between (act.Submit source) after reply f g = alike-equal q r (submits s p q r p.commands source reply f g)
-own budget s p q r Between (act.Ask (question.Invalid line)) after reply f g = alike-equal q r (asks p q r p.commands line reply f g)
-own budget s p q r (Evaluating run used) (act.Turn thread steps) after reply f g = turn budget run used thread steps s after p q r f g
-own budget s p q r (Evaluating run used) (act.Collect asked) after reply f g = alike-equal q r (f.3 ∙ sym g.3)
-own budget s p q r at act.Leave after reply f g = alike-equal q r (left budget s p q at after reply f ∙ sym (left budget s p r at after reply g))
-own budget s p q r at what after reply f g = absurd f
+own : (budget : ℕ) (s : State) (p q r : Progress) (what : Act) (after : State) (reply : ReplyBody) → OwnGoes budget s p what after reply q → OwnGoes budget s p what after reply r → Alike q r
+own budget s p q r act.Leave after reply f g = alike-equal q r (f ∙ sym g)
+own budget s p q r what after reply f g = goes-on budget s p q r p.phase what after reply f g
 
 -- behind a turn that was cut short the client can only leave
-own-cut : (budget : ℕ) (s : State) (p r m n : Progress) (at : Phase) (what : Act) (after : State) (reply : ReplyBody) → Alike p r → OwnGoes budget s p CutShort what after reply m → OwnGoes budget s r at what after reply n → Alike m n
-own-cut budget s p r m n at act.Leave after reply a f g = subst₂ Alike (sym f) (sym (left budget s r n at after reply g)) (alike-left p r a)
-own-cut budget s p r m n at what after reply a f g = absurd f
+own-cut : (budget : ℕ) (s : State) (p r m n : Progress) (what : Act) (after : State) (reply : ReplyBody) → p.phase ≡ CutShort → Alike p r →
+    OwnGoes budget s p what after reply m → OwnGoes budget s r what after reply n → Alike m n
+own-cut budget s p r m n act.Leave after reply e a f g = subst₂ Alike (sym f) (sym g) (alike-left p r a)
+own-cut budget s p r m n what after reply e a f g = absurd (subst (λ (at : Phase). GoesOn budget s p at what after reply m) e f)
 
 -- an entry of any client
 goes : (budget client : ℕ) (s : State) (p r m n : Progress) (entry : Entry) → Alike p r → Goes budget client s p entry m → Goes budget client s r entry n → Alike m n
 goes budget client s p r m n entry a f g = from (entry.client == client) f g
   where
-    Own : Progress → Phase → Progress → Type 0
-    Own x at y = OwnGoes budget s x at entry.act (step s entry).state (step s entry).reply.body y
+    Own : Progress → Progress → Type 0
+    Own x y = OwnGoes budget s x entry.act (step s entry).state (step s entry).reply.body y
 
-    mine : Own p p.phase m → Own r r.phase n → Alike m n
+    mine : Own p m → Own r n → Alike m n
     mine f g = elim a.phase [
-      | inl e ↦ own budget s r m n r.phase entry.act _ _ (subst (λ (x : Progress). Own x x.phase m) (equal p r e a) f) g
-      | inr (inl e) ↦ own-cut budget s p r m n r.phase entry.act _ _ a (subst (λ (at : Phase). Own p at m) e f) g
-      | inr (inr e) ↦ alike-sym n m (own-cut budget s r p n m p.phase entry.act _ _ (alike-sym p r a) (subst (λ (at : Phase). Own r at n) e g) f)
+      | inl e ↦ own budget s r m n entry.act _ _ (subst (λ (x : Progress). Own x m) (equal p r e a) f) g
+      | inr (inl e) ↦ own-cut budget s p r m n entry.act _ _ e a f g
+      | inr (inr e) ↦ alike-sym n m (own-cut budget s r p n m entry.act _ _ e (alike-sym p r a) g f)
     ]
 
-    from : (is : Bool) → MatchBool is ((p.has_left ≡ false) × Own p p.phase m) (m ≡ p) → MatchBool is ((r.has_left ≡ false) × Own r r.phase n) (n ≡ r) → Alike m n
+    from : (is : Bool) → MatchBool is ((p.has_left ≡ false) × Own p m) (m ≡ p) → MatchBool is ((r.has_left ≡ false) × Own r n) (n ≡ r) → Alike m n
     from true f g = mine f.1 g.1
     from false f g = subst₂ Alike (sym f) (sym g) a
 

@@ -4,8 +4,7 @@ use Rattle.std.proofs.lemmas.Bool.Decides.{nat_tests}
 use Rattle.jsh_lines.specs.Lines.{as_text}
 use Rattle.jsh_cut.specs.declared.command.Command.{Command}
 use Rattle.jsh_cut.specs.declared.held.Held.{Held}
-use Rattle.jsh_cut.specs.declared.held.Gives.{Gives}
-use Rattle.jsh_cut.specs.Commands.{cut_end, cut_line, cut_lines, onward, with_commands}
+use Rattle.jsh_cut.specs.Commands.{Gives, cut_end, cut_line, cut_lines, onward, with_commands}
 use Rattle.jsh_shell.specs.Cutting.{closing, ending}
 
 -- commands in front of none

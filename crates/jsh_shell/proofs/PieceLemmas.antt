@@ -6,12 +6,12 @@ use Rattle.jsh_lines.specs.Lines.{Cut, IsFirstLineFeed, as_text, cut, has_line_f
 use Rattle.jsh_lines.proofs.Cuts.{cut-line, cut-no_line, has_line_feed-uncut}
 use Rattle.jsh_cut.specs.declared.command.Command.{Command}
 use Rattle.jsh_cut.specs.declared.held.Held.{Held}
-use Rattle.jsh_cut.specs.declared.held.Gives.{Gives}
-use Rattle.jsh_cut.specs.Commands.{cut_line, cut_lines, onward, with_commands}
+use Rattle.jsh_cut.specs.Commands.{Gives, cut_line, cut_lines, onward, with_commands}
 use Rattle.jsh_shell.specs.Cutting.{ServesCut, piece_gives}
 use Rattle.jsh_shell.specs.declared.halts.Halt.{Halt}
 use Rattle.jsh_shell.specs.declared.halts.Halt.TheVariants as halt
 use Rattle.jsh_shell.specs.declared.lines.Behind.{Behind}
+use Rattle.jsh_shell.specs.Budget.{default_budget}
 use Rattle.jsh_shell.specs.Serving.{Serves, ServesPart}
 use Rattle.jsh_shell.proofs.Onward.{with_both, onward_on, onward_out, onward_front}
 use Rattle.jsh_shell.proofs.ServeLemmas.{serves-nothing, serves-append, serves-part-append, serves-part-more, part-for-memory}
@@ -19,7 +19,7 @@ use Rattle.jsh_shell.proofs.ServeLemmas.{serves-nothing, serves-append, serves-p
 -- Of what these bytes give behind a text, some commands were served, and these bytes are left behind another text.
 pub record IsAlong (client : ℕ) (first now : List Entry) (x y : Option (List ℕ)) (before held : Held) (bytes left : List ℕ) : Type 0 where
   pub served : List Command
-  pub serves : Serves client first now x y served
+  pub serves : Serves default_budget client first now x y served
   pub gives : piece_gives before bytes ≡ with_commands served (piece_gives held left)
   pub rest : (cut bytes).rest ≡ (cut left).rest
 
@@ -58,7 +58,7 @@ all_gives client a b x y before held bytes begun rest at along uncut feed =
 -- a line more was served
 pub along-line : (client : ℕ) (a b c : List Entry) (x y z : Option (List ℕ)) (before held : Held) (behind : Behind) (bytes begun rest : List ℕ) (at : ℕ) →
     IsAlong client a b x y before held bytes (begun ++ rest) → (cut begun).rest ≡ begun → IsFirstLineFeed rest at →
-    ServesCut client b c y z (cut_line held (as_text (begun ++ take at rest))) behind → behind.exits ≡ false →
+    ServesCut default_budget client b c y z (cut_line held (as_text (begun ++ take at rest))) behind → behind.exits ≡ false →
     IsAlong client a c x z before behind.held bytes (drop (at + 1) rest)
 along-line client a b c x y z before held behind bytes begun rest at along uncut feed s on =
     let line : Gives = cut_line held (as_text (begun ++ take at rest)) in record {
@@ -74,14 +74,14 @@ along-line client a b c x y z before held behind bytes begun rest at along uncut
 -- a line was served that exits
 pub along-exit : (client : ℕ) (a b c : List Entry) (x y z : Option (List ℕ)) (before held : Held) (behind : Behind) (bytes begun rest : List ℕ) (at : ℕ) →
     IsAlong client a b x y before held bytes (begun ++ rest) → (cut begun).rest ≡ begun → IsFirstLineFeed rest at →
-    ServesCut client b c y z (cut_line held (as_text (begun ++ take at rest))) behind → behind.exits ≡ true →
-    ServesCut client a c x z (piece_gives before bytes) behind
+    ServesCut default_budget client b c y z (cut_line held (as_text (begun ++ take at rest))) behind → behind.exits ≡ true →
+    ServesCut default_budget client a c x z (piece_gives before bytes) behind
 along-exit client a b c x y z before held behind bytes begun rest at along uncut feed s out =
     let line : Gives = cut_line held (as_text (begun ++ take at rest)) in
     let is : piece_gives before bytes ≡ with_commands along.served line =
     all_gives client a b x y before held bytes begun rest at along uncut feed
     ∙ ap (with_commands along.served) (onward_out line (λ h. piece_gives h (drop (at + 1) rest)) (sym s.exits ∙ out)) in record {
-      serves = subst (λ (g : Gives). Serves client a c x z g.commands) (sym is)
+      serves = subst (λ (g : Gives). Serves default_budget client a c x z g.commands) (sym is)
           (serves-append client a b c x y z along.served line.commands along.serves s.serves);
       held = s.held ∙ ap (λ (g : Gives). g.held) (sym is);
       exits = s.exits ∙ ap (λ (g : Gives). g.exits) (sym is);
@@ -90,20 +90,20 @@ along-exit client a b c x y z before held behind bytes begun rest at along uncut
 -- the serving of a line halted
 pub along-part : (why : Halt) (client : ℕ) (a b c : List Entry) (x y z : Option (List ℕ)) (before held : Held) (bytes begun rest : List ℕ) (at : ℕ) →
     IsAlong client a b x y before held bytes (begun ++ rest) → (cut begun).rest ≡ begun → IsFirstLineFeed rest at →
-    ServesPart why client b c y z (cut_line held (as_text (begun ++ take at rest))).commands → ServesPart why client a c x z (piece_gives before bytes).commands
+    ServesPart why default_budget client b c y z (cut_line held (as_text (begun ++ take at rest))).commands → ServesPart why default_budget client a c x z (piece_gives before bytes).commands
 along-part why client a b c x y z before held bytes begun rest at along uncut feed s =
     let line : Gives = cut_line held (as_text (begun ++ take at rest)) in
     let front = onward_front line (λ h. piece_gives h (drop (at + 1) rest)) in
-    subst (λ (cs : List Command). ServesPart why client a c x z cs)
+    subst (λ (cs : List Command). ServesPart why default_budget client a c x z cs)
     (sym (ap (λ (g : Gives). g.commands) (all_gives client a b x y before held bytes begun rest at along uncut feed) ∙ ap (λ (cs : List Command). along.served ++ cs) front.1))
     (serves-part-append why client a b c x y z along.served (line.commands ++ front.0) along.serves
     (serves-part-more why client b c y z line.commands front.0 s))
 
 -- want of memory on the way
 pub along-memory : (client : ℕ) (a b : List Entry) (x y : Option (List ℕ)) (before held : Held) (bytes left : List ℕ) →
-    IsAlong client a b x y before held bytes left → ServesPart halt.NoMemory client a b x y (piece_gives before bytes).commands
+    IsAlong client a b x y before held bytes left → ServesPart halt.NoMemory default_budget client a b x y (piece_gives before bytes).commands
 along-memory client a b x y before held bytes left along =
-    subst (λ (g : Gives). ServesPart halt.NoMemory client a b x y g.commands) (sym along.gives)
+    subst (λ (g : Gives). ServesPart halt.NoMemory default_budget client a b x y g.commands) (sym along.gives)
     (serves-part-append halt.NoMemory client a b b x y y along.served (piece_gives held left).commands along.serves (part-for-memory client b y (piece_gives held left).commands))
 
 -- no line is left
@@ -112,11 +112,11 @@ left_none begun rest uncut none = cut-no_line (begun ++ rest) (no_feed-append be
 
 pub along-end : (client : ℕ) (a b : List Entry) (x y : Option (List ℕ)) (before held : Held) (bytes begun rest : List ℕ) →
     IsAlong client a b x y before held bytes (begun ++ rest) → (cut begun).rest ≡ begun → has_line_feed rest ≡ false →
-    ServesCut client a b x y (piece_gives before bytes) (record { held = held; exits = false })
+    ServesCut default_budget client a b x y (piece_gives before bytes) (record { held = held; exits = false })
 along-end client a b x y before held bytes begun rest along uncut none =
     let is : piece_gives before bytes ≡ record { commands = along.served ++ []; held = held; exits = false } =
     along.gives ∙ ap (λ (k : Cut). with_commands along.served (cut_lines held (map as_text k.whole))) (left_none begun rest uncut none) in record {
-      serves = subst (λ (cs : List Command). Serves client a b x y cs) (sym (ap (λ (g : Gives). g.commands) is ∙ append-nil along.served)) along.serves;
+      serves = subst (λ (cs : List Command). Serves default_budget client a b x y cs) (sym (ap (λ (g : Gives). g.commands) is ∙ append-nil along.served)) along.serves;
       held = ap (λ (g : Gives). g.held) (sym is);
       exits = ap (λ (g : Gives). g.exits) (sym is);
     }

@@ -3,20 +3,21 @@ use Rattle.std.proofs.Common.{◌≡◌, ℕ, ◌+◌, ◌<◌, ◌≤◌, Bool,
 use Rattle.std.proofs.lemmas.List.{map-append}
 use Rattle.std.specs.Io.KnownBytes.{prepend_known}
 use Rattle.jsh_io.proofs.Known.{prepend_known-prepend_known, prepend_known-nil}
+use Rattle.jsh_io.specs.Count.{Rose}
 use Rattle.jsh_snippet.specs.declared.acts.Entry.{Entry}
 use Rattle.jsh_lines.specs.Lines.{Cut, as_text, cut, last_lines}
 use Rattle.jsh_lines.proofs.Cuts.{cut-append, cut-rest}
 use Rattle.jsh_cut.specs.declared.command.Command.{Command}
 use Rattle.jsh_cut.specs.declared.held.Held.{Held}
 use Rattle.jsh_cut.specs.declared.held.Held.TheVariants as held
-use Rattle.jsh_cut.specs.declared.held.Gives.{Gives}
-use Rattle.jsh_cut.specs.Commands.{commands, cut_end, cut_input, cut_lines, exits, onward, with_commands}
+use Rattle.jsh_cut.specs.Commands.{Gives, before_exit, cut_end, cut_input, cut_lines, exits, onward, with_commands}
 use Rattle.jsh_shell.specs.Cutting.{ServesCut, closing, ending, piece_gives}
 use Rattle.jsh_shell.specs.declared.halts.Halt.{Halt}
 use Rattle.jsh_shell.specs.declared.halts.Halt.TheVariants as halt
 use Rattle.jsh_shell.specs.declared.lines.Behind.{Behind}
-use Rattle.jsh_shell.specs.Budget.{most_input}
-use Rattle.jsh_shell.specs.Serving.{Serves, ServesPart, IsServedBy, status_of}
+use Rattle.jsh_shell.specs.Budget.{default_budget, most_input}
+use Rattle.jsh_shell.specs.Statuses.{all_served, limit_met, read_failed}
+use Rattle.jsh_shell.specs.Serving.{HasCause, Serves, ServesPart, IsServedBy, status_of}
 use Rattle.jsh_shell.proofs.Onward.{lines-append, onward_on}
 use Rattle.jsh_shell.proofs.ServeLemmas.{serves-nothing, serves-append, serves-part-append}
 
@@ -30,7 +31,7 @@ pub record IsReading (client : ℕ) (first now : List Entry) (left_before left x
   pub reads : left_before ≡ prepend_known read left
   pub count : length read ≡ total
   pub begun : rest ≡ (cut read).rest
-  pub serves : Serves client first now x y (input_gives read).commands
+  pub serves : Serves default_budget client first now x y (input_gives read).commands
   pub held : waiting ≡ (input_gives read).held
   pub on : (input_gives read).exits ≡ false
 
@@ -49,7 +50,7 @@ reading-start client h left x = record {
 whole_gives : (read : List ℕ) → cut_input read false ≡ input_gives read
 whole_gives read = ap (λ (lines : List (List ℕ)). cut_lines held.Nothing (map as_text lines)) (append-nil (cut read).whole)
 
-whole_commands : (read : List ℕ) → commands read false ≡ (input_gives read).commands
+whole_commands : (read : List ℕ) → before_exit read false ≡ (input_gives read).commands
 whole_commands read = append-nil (cut_input read false).commands ∙ ap (λ (g : Gives). g.commands) (whole_gives read)
 
 whole_exits : (read : List ℕ) → exits read false ≡ (input_gives read).exits
@@ -66,7 +67,7 @@ gives_behind waiting read lines is on =
 
 -- the commands of whole lines and of the end of the input
 last_commands : (waiting : Held) (read rest : List ℕ) → rest ≡ (cut read).rest → waiting ≡ (input_gives read).held → (input_gives read).exits ≡ false →
-    commands read true ≡ (input_gives read).commands ++ ending waiting rest
+    before_exit read true ≡ (input_gives read).commands ++ ending waiting rest
 last_commands waiting read rest begun is on =
     let lines : List (List ℕ) = last_lines (cut read).rest in
     ap (λ (g : Gives). g.commands ++ closing g) (gives_behind waiting read lines is on)
@@ -90,7 +91,7 @@ counts_more read piece total count = length-append read piece ∙ ap (λ n. n + 
 
 pub reading-more : (client : ℕ) (a b c : List Entry) (left0 left1 left2 x y z : Option (List ℕ)) (waiting : Held) (behind : Behind) (rest piece next : List ℕ) (total now : ℕ) →
     IsReading client a b left0 left1 x y waiting rest total → left1 ≡ prepend_known piece left2 → now ≡ total + length piece →
-    ServesCut client b c y z (piece_gives waiting (rest ++ piece)) behind → behind.exits ≡ false → next ≡ (cut (rest ++ piece)).rest →
+    ServesCut default_budget client b c y z (piece_gives waiting (rest ++ piece)) behind → behind.exits ≡ false → next ≡ (cut (rest ++ piece)).rest →
     IsReading client a c left0 left2 x z behind.held next now
 reading-more client a b c left0 left1 left2 x y z waiting behind rest piece next total now r reads sum s on begun =
     let gives = more_gives waiting r.read piece rest r.begun r.held r.on in record {
@@ -98,16 +99,16 @@ reading-more client a b c left0 left1 left2 x y z waiting behind rest piece next
       reads = reads_more r.read piece left0 left1 left2 r.reads reads;
       count = counts_more r.read piece total r.count ∙ sym sum;
       begun = begun ∙ ap (λ (h : List ℕ). (cut (h ++ piece)).rest) r.begun ∙ sym (ap (λ (k : Cut). k.rest) (cut-append r.read piece));
-      serves = subst (λ (g : Gives). Serves client a c x z g.commands) (sym gives)
+      serves = subst (λ (g : Gives). Serves default_budget client a c x z g.commands) (sym gives)
           (serves-append client a b c x y z (input_gives r.read).commands (piece_gives waiting (rest ++ piece)).commands r.serves s.serves);
       held = s.held ∙ ap (λ (g : Gives). g.held) (sym gives);
       on = ap (λ (g : Gives). g.exits) gives ∙ sym s.exits ∙ on;
     }
 
 -- a read failed
-pub served-failed : (failed_read failed_write : Type 0) (client : ℕ) (a b : List Entry) (left0 left1 left2 x y : Option (List ℕ)) (waiting : Held) (rest : List ℕ) (total : ℕ) →
-    IsReading client a b left0 left1 x y waiting rest total → left2 ≡ left1 → total < most_input → failed_read → IsServedBy client 3 a b left0 left2 x y failed_read failed_write
-served-failed failed_read failed_write client a b left0 left1 left2 x y waiting rest total r same less failed = record {
+pub served-failed : (reads0 reads1 writes0 writes1 : ℕ) (client : ℕ) (a b : List Entry) (left0 left1 left2 x y : Option (List ℕ)) (waiting : Held) (rest : List ℕ) (total : ℕ) →
+    IsReading client a b left0 left1 x y waiting rest total → left2 ≡ left1 → total < most_input → Rose reads0 reads1 → writes1 ≡ writes0 → IsServedBy default_budget client read_failed a b left0 left2 x y reads0 reads1 writes0 writes1
+served-failed reads0 reads1 writes0 writes1 client a b left0 left1 left2 x y waiting rest total r same less failed unwritten = record {
   read = r.read;
   ended = false;
   reads = r.reads ∙ ap (prepend_known r.read) (sym same);
@@ -118,35 +119,36 @@ served-failed failed_read failed_write client a b left0 left1 left2 x y waiting 
     whole_exits r.read ∙ r.on,
     subst (λ n. n < most_input) (sym r.count) less,
     failed,
-    subst (λ (cs : List Command). Serves client a b x y cs) (sym (whole_commands r.read)) r.serves,
+    unwritten,
+    subst (λ (cs : List Command). Serves default_budget client a b x y cs) (sym (whole_commands r.read)) r.serves,
   ));
 }
 
 -- all that may be read was read
-pub served-most : (failed_read failed_write : Type 0) (client : ℕ) (a b : List Entry) (left0 left1 x y : Option (List ℕ)) (waiting : Held) (rest : List ℕ) (total : ℕ) →
-    IsReading client a b left0 left1 x y waiting rest total → total ≡ most_input → IsServedBy client 6 a b left0 left1 x y failed_read failed_write
-served-most failed_read failed_write client a b left0 left1 x y waiting rest total r full = record {
+pub served-most : (reads0 reads1 writes0 writes1 : ℕ) (client : ℕ) (a b : List Entry) (left0 left1 x y : Option (List ℕ)) (waiting : Held) (rest : List ℕ) (total : ℕ) →
+    IsReading client a b left0 left1 x y waiting rest total → total ≡ most_input → reads1 ≡ reads0 → writes1 ≡ writes0 → IsServedBy default_budget client limit_met a b left0 left1 x y reads0 reads1 writes0 writes1
+served-most reads0 reads1 writes0 writes1 client a b left0 left1 x y waiting rest total r full unread unwritten = record {
   read = r.read;
   ended = false;
   reads = r.reads;
   all_read = λ e. cc;
   few = subst (λ n. n ≤ most_input) (sym (r.count ∙ full)) (omega arith);
-  outcome = inr (inr (inl (refl, refl, r.count ∙ full, subst (λ (cs : List Command). Serves client a b x y cs) (sym (whole_commands r.read)) r.serves)));
+  outcome = inr (inr (inl (refl, refl, r.count ∙ full, unread, unwritten, subst (λ (cs : List Command). Serves default_budget client a b x y cs) (sym (whole_commands r.read)) r.serves)));
 }
 
 -- the commands were served up to a line that exits
 exit_serves : (client : ℕ) (a b c : List Entry) (left0 left1 x y z : Option (List ℕ)) (waiting : Held) (behind : Behind) (rest piece : List ℕ) (total : ℕ) →
-    (r : IsReading client a b left0 left1 x y waiting rest total) → ServesCut client b c y z (piece_gives waiting (rest ++ piece)) behind →
-    Serves client a c x z (commands (r.read ++ piece) false)
+    (r : IsReading client a b left0 left1 x y waiting rest total) → ServesCut default_budget client b c y z (piece_gives waiting (rest ++ piece)) behind →
+    Serves default_budget client a c x z (before_exit (r.read ++ piece) false)
 exit_serves client a b c left0 left1 x y z waiting behind rest piece total r s =
-    subst (λ (cs : List Command). Serves client a c x z cs)
+    subst (λ (cs : List Command). Serves default_budget client a c x z cs)
     (sym (whole_commands (r.read ++ piece) ∙ ap (λ (g : Gives). g.commands) (more_gives waiting r.read piece rest r.begun r.held r.on)))
     (serves-append client a b c x y z (input_gives r.read).commands (piece_gives waiting (rest ++ piece)).commands r.serves s.serves)
 
-pub served-exit : (failed_read failed_write : Type 0) (client : ℕ) (a b c : List Entry) (left0 left1 left2 x y z : Option (List ℕ)) (waiting : Held) (behind : Behind) (rest piece : List ℕ) (total : ℕ) →
+pub served-exit : (reads0 reads1 writes0 writes1 : ℕ) (client : ℕ) (a b c : List Entry) (left0 left1 left2 x y z : Option (List ℕ)) (waiting : Held) (behind : Behind) (rest piece : List ℕ) (total : ℕ) →
     IsReading client a b left0 left1 x y waiting rest total → left1 ≡ prepend_known piece left2 → total + length piece < most_input →
-    ServesCut client b c y z (piece_gives waiting (rest ++ piece)) behind → behind.exits ≡ true → IsServedBy client 0 a c left0 left2 x z failed_read failed_write
-served-exit failed_read failed_write client a b c left0 left1 left2 x y z waiting behind rest piece total r reads less s out = record {
+    ServesCut default_budget client b c y z (piece_gives waiting (rest ++ piece)) behind → behind.exits ≡ true → reads1 ≡ reads0 → writes1 ≡ writes0 → IsServedBy default_budget client all_served a c left0 left2 x z reads0 reads1 writes0 writes1
+served-exit reads0 reads1 writes0 writes1 client a b c left0 left1 left2 x y z waiting behind rest piece total r reads less s out unread unwritten = record {
   read = r.read ++ piece;
   ended = false;
   reads = reads_more r.read piece left0 left1 left2 r.reads reads;
@@ -156,15 +158,17 @@ served-exit failed_read failed_write client a b c left0 left1 left2 x y z waitin
     refl,
     whole_exits (r.read ++ piece) ∙ ap (λ (g : Gives). g.exits) (more_gives waiting r.read piece rest r.begun r.held r.on) ∙ sym s.exits ∙ out,
     subst (λ n. n < most_input) (sym (counts_more r.read piece total r.count)) less,
+    unread,
+    unwritten,
     exit_serves client a b c left0 left1 x y z waiting behind rest piece total r s,
   );
 }
 
 -- it exits in the piece with which all that may be read was read
-pub served-exit-most : (failed_read failed_write : Type 0) (client : ℕ) (a b c : List Entry) (left0 left1 left2 x y z : Option (List ℕ)) (waiting : Held) (behind : Behind) (rest piece : List ℕ) (total : ℕ) →
+pub served-exit-most : (reads0 reads1 writes0 writes1 : ℕ) (client : ℕ) (a b c : List Entry) (left0 left1 left2 x y z : Option (List ℕ)) (waiting : Held) (behind : Behind) (rest piece : List ℕ) (total : ℕ) →
     IsReading client a b left0 left1 x y waiting rest total → left1 ≡ prepend_known piece left2 → total + length piece ≡ most_input →
-    ServesCut client b c y z (piece_gives waiting (rest ++ piece)) behind → IsServedBy client 6 a c left0 left2 x z failed_read failed_write
-served-exit-most failed_read failed_write client a b c left0 left1 left2 x y z waiting behind rest piece total r reads full s = record {
+    ServesCut default_budget client b c y z (piece_gives waiting (rest ++ piece)) behind → reads1 ≡ reads0 → writes1 ≡ writes0 → IsServedBy default_budget client limit_met a c left0 left2 x z reads0 reads1 writes0 writes1
+served-exit-most reads0 reads1 writes0 writes1 client a b c left0 left1 left2 x y z waiting behind rest piece total r reads full s unread unwritten = record {
   read = r.read ++ piece;
   ended = false;
   reads = reads_more r.read piece left0 left1 left2 r.reads reads;
@@ -174,6 +178,8 @@ served-exit-most failed_read failed_write client a b c left0 left1 left2 x y z w
     refl,
     refl,
     counts_more r.read piece total r.count ∙ full,
+    unread,
+    unwritten,
     exit_serves client a b c left0 left1 x y z waiting behind rest piece total r s,
   )));
 }
@@ -183,10 +189,10 @@ pub nothing-left : (left1 left2 : Option (List ℕ)) → left1 ≡ prepend_known
 nothing-left left1 left2 reads none = subst (λ (l : Option (List ℕ)). IfSome l (λ (rest : List ℕ). rest ≡ [])) (reads ∙ prepend_known-nil left2) none
 
 -- the input has ended
-pub served-whole : (failed_read failed_write : Type 0) (client : ℕ) (a b c : List Entry) (left0 left1 left2 x y z : Option (List ℕ)) (waiting : Held) (rest : List ℕ) (total : ℕ) →
+pub served-whole : (reads0 reads1 writes0 writes1 : ℕ) (client : ℕ) (a b c : List Entry) (left0 left1 left2 x y z : Option (List ℕ)) (waiting : Held) (rest : List ℕ) (total : ℕ) →
     IsReading client a b left0 left1 x y waiting rest total → left1 ≡ prepend_known [] left2 → IfSome left1 (λ (bytes : List ℕ). bytes ≡ []) → total < most_input →
-    Serves client b c y z (ending waiting rest) → IsServedBy client 0 a c left0 left2 x z failed_read failed_write
-served-whole failed_read failed_write client a b c left0 left1 left2 x y z waiting rest total r reads none less s = record {
+    Serves default_budget client b c y z (ending waiting rest) → reads1 ≡ reads0 → writes1 ≡ writes0 → IsServedBy default_budget client all_served a c left0 left2 x z reads0 reads1 writes0 writes1
+served-whole reads0 reads1 writes0 writes1 client a b c left0 left1 left2 x y z waiting rest total r reads none less s unread unwritten = record {
   read = r.read;
   ended = true;
   reads = r.reads ∙ ap (prepend_known r.read) (reads ∙ prepend_known-nil left2);
@@ -196,16 +202,18 @@ served-whole failed_read failed_write client a b c left0 left1 left2 x y z waiti
     refl,
     refl,
     subst (λ n. n < most_input) (sym r.count) less,
-    subst (λ (cs : List Command). Serves client a c x z cs) (sym (last_commands waiting r.read rest r.begun r.held r.on))
+    unread,
+    unwritten,
+    subst (λ (cs : List Command). Serves default_budget client a c x z cs) (sym (last_commands waiting r.read rest r.begun r.held r.on))
         (serves-append client a b c x y z (input_gives r.read).commands (ending waiting rest) r.serves s),
   );
 }
 
 -- the end of the input was served no further
-pub served-part-end : (failed_read failed_write : Type 0) (why : Halt) (client status : ℕ) (a b c : List Entry) (left0 left1 left2 x y z : Option (List ℕ)) (waiting : Held) (rest : List ℕ) (total : ℕ) →
+pub served-part-end : (reads0 reads1 writes0 writes1 : ℕ) (why : Halt) (client status : ℕ) (a b c : List Entry) (left0 left1 left2 x y z : Option (List ℕ)) (waiting : Held) (rest : List ℕ) (total : ℕ) →
     IsReading client a b left0 left1 x y waiting rest total → left1 ≡ prepend_known [] left2 → IfSome left1 (λ (bytes : List ℕ). bytes ≡ []) → total ≤ most_input →
-    status ≡ status_of why → (why ≡ halt.SinkFailed → failed_write) → ServesPart why client b c y z (ending waiting rest) → IsServedBy client status a c left0 left2 x z failed_read failed_write
-served-part-end failed_read failed_write why client status a b c left0 left1 left2 x y z waiting rest total r reads none few is failed s = record {
+    status ≡ status_of why → reads1 ≡ reads0 → HasCause why writes0 writes1 → ServesPart why default_budget client b c y z (ending waiting rest) → IsServedBy default_budget client status a c left0 left2 x z reads0 reads1 writes0 writes1
+served-part-end reads0 reads1 writes0 writes1 why client status a b c left0 left1 left2 x y z waiting rest total r reads none few is unread cause s = record {
   read = r.read;
   ended = true;
   reads = r.reads ∙ ap (prepend_known r.read) (reads ∙ prepend_known-nil left2);
@@ -214,17 +222,18 @@ served-part-end failed_read failed_write why client status a b c left0 left1 lef
   outcome = inr (inr (inr (
     why,
     is,
-    failed,
-    subst (λ (cs : List Command). ServesPart why client a c x z cs) (sym (last_commands waiting r.read rest r.begun r.held r.on))
+    unread,
+    cause,
+    subst (λ (cs : List Command). ServesPart why default_budget client a c x z cs) (sym (last_commands waiting r.read rest r.begun r.held r.on))
         (serves-part-append why client a b c x y z (input_gives r.read).commands (ending waiting rest) r.serves s),
   )));
 }
 
 -- a line of a piece was served no further
-pub served-part-piece : (failed_read failed_write : Type 0) (why : Halt) (client status : ℕ) (a b c : List Entry) (left0 left1 left2 x y z : Option (List ℕ)) (waiting : Held) (rest piece : List ℕ) (total : ℕ) →
+pub served-part-piece : (reads0 reads1 writes0 writes1 : ℕ) (why : Halt) (client status : ℕ) (a b c : List Entry) (left0 left1 left2 x y z : Option (List ℕ)) (waiting : Held) (rest piece : List ℕ) (total : ℕ) →
     IsReading client a b left0 left1 x y waiting rest total → left1 ≡ prepend_known piece left2 → total + length piece ≤ most_input →
-    status ≡ status_of why → (why ≡ halt.SinkFailed → failed_write) → ServesPart why client b c y z (piece_gives waiting (rest ++ piece)).commands → IsServedBy client status a c left0 left2 x z failed_read failed_write
-served-part-piece failed_read failed_write why client status a b c left0 left1 left2 x y z waiting rest piece total r reads few is failed s = record {
+    status ≡ status_of why → reads1 ≡ reads0 → HasCause why writes0 writes1 → ServesPart why default_budget client b c y z (piece_gives waiting (rest ++ piece)).commands → IsServedBy default_budget client status a c left0 left2 x z reads0 reads1 writes0 writes1
+served-part-piece reads0 reads1 writes0 writes1 why client status a b c left0 left1 left2 x y z waiting rest piece total r reads few is unread cause s = record {
   read = r.read ++ piece;
   ended = false;
   reads = reads_more r.read piece left0 left1 left2 r.reads reads;
@@ -233,8 +242,9 @@ served-part-piece failed_read failed_write why client status a b c left0 left1 l
   outcome = inr (inr (inr (
     why,
     is,
-    failed,
-    subst (λ (cs : List Command). ServesPart why client a c x z cs)
+    unread,
+    cause,
+    subst (λ (cs : List Command). ServesPart why default_budget client a c x z cs)
         (sym (whole_commands (r.read ++ piece) ∙ ap (λ (g : Gives). g.commands) (more_gives waiting r.read piece rest r.begun r.held r.on)))
         (serves-part-append why client a b c x y z (input_gives r.read).commands (piece_gives waiting (rest ++ piece)).commands r.serves s),
   )));

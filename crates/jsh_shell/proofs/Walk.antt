@@ -12,15 +12,17 @@ use Rattle.jsh_snippet.specs.declared.replies.ReplyBody.{ReplyBody}
 use Rattle.jsh_render.specs.Texts.{shown}
 use Rattle.jsh_core.specs.State.{State}
 use Rattle.jsh_core.specs.Step.{step, kept, kept_act}
+use Rattle.jsh_core.specs.Acts.{is_last}
 use Rattle.jsh_core.specs.Stands.{IsCutShort}
 use Rattle.jsh_core.specs.History.{state_of, state_after, is_close}
+use Rattle.jsh_core.proofs.Steps.{leaves, step-fits, step-present}
 use Rattle.jsh_shell.specs.declared.halts.Halt.{Halt}
 use Rattle.jsh_shell.specs.declared.halts.Halt.TheVariants as halt
-use Rattle.jsh_shell.specs.Progress.{Progress, Goes, OwnGoes, Follows}
+use Rattle.jsh_shell.specs.Progress.{Progress, Goes, GoesOn, OwnGoes, Follows}
 use Rattle.jsh_shell.specs.Progress.Phase.{CutShort}
 use Rattle.jsh_shell.specs.Transcript.{shown_to, transcript_after, is_turn}
 use Rattle.jsh_shell.specs.Limited.{IsLimited}
-use Rattle.jsh_shell.specs.Serving.{Advances, AreOwn, Halts, IsOpen, WritesPart}
+use Rattle.jsh_shell.specs.Serving.{Advances, AreOwn, Fails, Halts, IsOpen, Shows, WritesPart}
 
 pub state_after-append : (s : State) (xs ys : List Entry) → state_after s (xs ++ ys) ≡ state_after (state_after s xs) ys
 state_after-append s [] ys = refl
@@ -131,9 +133,20 @@ transcript-turn client s thread steps = rw (eq-eqb client client refl) refl
 
 -- an own entry that the progress allows
 pub goes-own : (budget client : ℕ) (s : State) (p q : Progress) (what : Act) → p.has_left ≡ false →
-    OwnGoes budget s p p.phase what (step s (record { client = client; act = what })).state (step s (record { client = client; act = what })).reply.body q →
+    OwnGoes budget s p what (step s (record { client = client; act = what })).state (step s (record { client = client; act = what })).reply.body q →
     Goes budget client s p (record { client = client; act = what }) q
 goes-own budget client s p q what here own = rw (eq-eqb client client refl) (here, own)
+
+-- an own entry behind which the client stays
+pub goes-on : (budget client : ℕ) (s : State) (p q : Progress) (what : Act) → is_last what ≡ false → p.has_left ≡ false →
+    GoesOn budget s p p.phase what (step s (record { client = client; act = what })).state (step s (record { client = client; act = what })).reply.body q →
+    Goes budget client s p (record { client = client; act = what }) q
+goes-on budget client s p q what stays here goes =
+    goes-own budget client s p q what here (from what (step s (record { client = client; act = what })).state (step s (record { client = client; act = what })).reply.body stays goes)
+  where
+    from : (what : Act) (after : State) (reply : ReplyBody) → is_last what ≡ false → GoesOn budget s p p.phase what after reply q → OwnGoes budget s p what after reply q
+    from act.Leave after reply stays goes = cc
+    from _ after reply stays goes = goes
 
 pub advances-one : (budget client : ℕ) (history after : List Entry) (held now : Option (List ℕ)) (p q : Progress) (what : Act) (said : List ℕ) →
     after ≡ history ++ record { client = client; act = what } ∷ [] →
@@ -190,6 +203,33 @@ halts-here why budget client history held p limit phase here = record {
     refl-le : 0 ≤ 0
     refl-le = omega arith
 
+-- an own act other than a turn was done and answered, and its answer was written
+pub advances-act : (budget client : ℕ) (history after : List Entry) (held now : Option (List ℕ)) (what : Act) (reply : Reply) (p q : Progress) →
+    Shows history after (record { client = client; act = what }) reply held now → is_turn what ≡ false →
+    Goes budget client (state_of history) p (record { client = client; act = what }) q → Advances budget client history after held now p q
+advances-act budget client history after held now what reply p q shows quiet goes = advances-one budget client history after held now p q what _ shows.grows goes
+    (transcript-own client (state_of history) what quiet)
+    (shows.written ∙ ap (λ (r : Reply). append_known held (shown (record { client = client; act = what }) r)) shows.reply)
+
+-- it was not done, or of its answer a part was written
+pub halts-act : (why : Halt) (budget client : ℕ) (history after : List Entry) (held now : Option (List ℕ)) (what : Act) (p q : Progress) →
+    Fails why history after (record { client = client; act = what }) held now → is_turn what ≡ false →
+    Goes budget client (state_of history) p (record { client = client; act = what }) q →
+    (q.phase ≡ CutShort → ⊥) → p.has_left ≡ false → q.has_left ≡ false →
+    (r : Progress) × Halts why budget client history after held now p r
+halts-act why budget client history after held now what p q (inl same) quiet goes behind here there = (
+  p,
+  subst (λ (h : List Entry). Halts why budget client history h held now p p) (sym same.0)
+      (subst (λ (x : Option (List ℕ)). Halts why budget client history history held x p p) (sym same.1)
+      (halts-here why budget client history held p (λ e. cc) (λ e. same.2) here)),
+)
+halts-act why budget client history after held now what p q (inr broken) quiet goes behind here there = (
+  q,
+  halts-one why budget client history after held now p q what _ broken.0.part.0 broken.0.grows goes
+      (transcript-own client (state_of history) what quiet)
+      broken.0.part.1 (λ e. absurd (broken.1 e)) (λ e. absurd (broken.1 e)) (λ e. absurd (behind e)) there,
+)
+
 not_closed_cases : (b : Bool) (rest more : Bool) → (rest ≡ false → more ≡ false) → (b || rest) ≡ false → (b || more) ≡ false
 not_closed_cases true rest more along n = n
 not_closed_cases false rest more along n = along n
@@ -200,19 +240,31 @@ pub not_closed-push : (h : List Entry) (e : Entry) → is_close e.act ≡ false 
 not_closed-push [] e other n = rw other refl
 not_closed-push (x ∷ xs) e other n = not_closed_cases (is_close x.act) _ _ (not_closed-push xs e other) n
 
--- the client may go on behind an entry that keeps the clients
-pub open-push : (client : ℕ) (history : List Entry) (e : Entry) → IsOpen client history → is_close e.act ≡ false →
-    (step (state_of history) e).state.clients ≡ (state_of history).clients →
-    length (step (state_of history) e).state.world.states ≡ length (step (state_of history) e).state.world.threads →
-    IsOpen client (history ++ e ∷ [])
-open-push client history e o other clients states = record {
-  present = subst (λ (s : State). slice_get s.clients client ≡ Some true) (sym (state_after-append _ history (e ∷ [])))
-      (subst (λ (cs : List Bool). slice_get cs client ≡ Some true) (sym clients) o.present);
-  root = subst (λ (s : State). slice_get s.clients 0 ≡ Some true) (sym (state_after-append _ history (e ∷ [])))
-      (subst (λ (cs : List Bool). slice_get cs 0 ≡ Some true) (sym clients) o.root);
-  «open» = not_closed-push history e other o.«open»;
-  states = subst (λ (s : State). length s.world.states ≡ length s.world.threads) (sym (state_after-append _ history (e ∷ []))) states;
-}
+-- an act behind which clients stay is no close
+stays-open : (what : Act) → is_last what ≡ false → is_close what ≡ false
+stays-open act.Close stays = stays
+stays-open _ stays = refl
+
+-- and no client's leave
+stays-there : (by client : ℕ) (what : Act) → is_last what ≡ false → leaves (record { client = by; act = what }) client ≡ false
+stays-there by client act.Leave stays = cc
+stays-there by client _ stays = refl
+
+-- the state behind one more entry
+pub state_of-push : (history after : List Entry) (e : Entry) → after ≡ history ++ e ∷ [] → state_of after ≡ (step (state_of history) e).state
+state_of-push history after e grows = ap state_of grows ∙ state_after-append _ history (e ∷ [])
+
+-- the client may go on behind an entry other than a leave and a close
+pub open-push : (client : ℕ) (history after : List Entry) (e : Entry) → IsOpen client history → is_last e.act ≡ false → after ≡ history ++ e ∷ [] → IsOpen client after
+open-push client history after e o stays grows = subst (λ (h : List Entry). IsOpen client h) (sym grows) (record {
+  present = subst (λ (s : State). slice_get s.clients client ≡ Some true) (sym behind) (step-present (state_of history) e client o.present (stays-there e.client client e.act stays));
+  root = subst (λ (s : State). slice_get s.clients 0 ≡ Some true) (sym behind) (step-present (state_of history) e 0 o.root (stays-there e.client 0 e.act stays));
+  «open» = not_closed-push history e (stays-open e.act stays) o.«open»;
+  states = subst (λ (s : State). length s.world.states ≡ length s.world.threads) (sym behind) (step-fits (state_of history) e o.states);
+})
+  where
+    behind : state_of (history ++ e ∷ []) ≡ (step (state_of history) e).state
+    behind = state_of-push history (history ++ e ∷ []) e refl
 
 -- an act other than a turn is kept as it was
 pub kept-quiet : (e : Entry) (reply : Reply) → is_turn e.act ≡ false → kept e reply ≡ e

@@ -4,14 +4,13 @@ use Rattle.jsh_snippet.specs.declared.acts.Entry.{Entry}
 use Rattle.jsh_lines.specs.Lines.{as_text, cut, last_lines}
 use Rattle.jsh_cut.specs.declared.command.Command.{Command}
 use Rattle.jsh_cut.specs.declared.held.Held.{Held}
-use Rattle.jsh_cut.specs.declared.held.Gives.{Gives}
-use Rattle.jsh_cut.specs.Commands.{cut_lines, cut_end}
+use Rattle.jsh_cut.specs.Commands.{Gives, cut_lines, cut_end}
 use Rattle.jsh_shell.specs.declared.lines.Behind.{Behind}
 use Rattle.jsh_shell.specs.Serving.{Serves}
 
--- the commands were served that lines give, and this stands behind them
-pub record ServesCut (client : ℕ) (before after : List Entry) (held_before held_after : Option (List ℕ)) (gives : Gives) (behind : Behind) : Type 0 where
-  pub serves : Serves client before after held_before held_after gives.commands
+-- the commands were served that lines give before they exit, and this stands behind them
+pub record ServesCut (budget client : ℕ) (before after : List Entry) (held_before held_after : Option (List ℕ)) (gives : Gives) (behind : Behind) : Type 0 where
+  pub serves : Serves budget client before after held_before held_after gives.commands
   pub held : behind.held ≡ gives.held
   pub exits : behind.exits ≡ gives.exits
 

@@ -1,7 +1,9 @@
-pub mod Cutting
+pub mod Budget
+pub mod Statuses
 pub mod Progress
 pub mod Transcript
 pub mod Limited
-pub mod Budget
-pub mod Journal
 pub mod Serving
+pub mod Cutting
+pub mod Journal
+pub mod Upcoming

@@ -1,25 +1,25 @@
 -- Where a limit keeps a client from going on.
 use Rattle.std.specs.Prelude.{◌≡◌, ℕ, ◌+◌, ◌<◌, ◌≤◌, ◌⊎◌, true, List, [], ◌∷◌, length}
+use Rattle.jsh_tree.specs.Text.{most_source}
 use Rattle.jsh_snippet.specs.declared.acts.Entry.{Entry}
 use Rattle.jsh_cut.specs.declared.command.Command.{Command}
-use Rattle.jsh_cut.specs.declared.command.Command.TheVariants.{Eval, Invalid}
-use Rattle.jsh_core.specs.History.{source_bytes}
-use Rattle.jsh_shell.specs.Progress.{Phase, Progress}
+use Rattle.jsh_core.specs.Limits.{most_bytes, most_entries}
+use Rattle.jsh_core.specs.History.{act_bytes, source_bytes, HasRoom}
+use Rattle.jsh_shell.specs.Progress.{Phase, Progress, command_act}
 use Rattle.jsh_shell.specs.Progress.Phase.{Between, Evaluating, CutShort}
 
--- the text that a command has
-abbrev pub text_of : Command → List ℕ
-text_of (Eval source) = source
-text_of (Invalid line) = line
+-- so many bytes are too many for one text, or with those before them
+abbrev pub HasNoRoomFor : List Entry → ℕ → Type 0
+HasNoRoomFor before bytes = (most_source < bytes) ⊎ (most_bytes < source_bytes before + bytes)
 
--- a text is too long, by itself or with those before it
-abbrev pub HasNoRoomFor : List Entry → List ℕ → Type 0
-HasNoRoomFor before text = (65536 < length text) ⊎ (67108864 < source_bytes before + length text)
+-- so many bytes have room
+abbrev pub HasRoomOf : List Entry → ℕ → Type 0
+HasRoomOf before bytes = HasRoom before × (bytes ≤ most_source) × (source_bytes before + bytes ≤ most_bytes)
 
 -- the text of the first command without an entry is too long
 abbrev pub IsTooLong : List Entry → List Command → Type 0
 IsTooLong before [] = ⊥
-IsTooLong before (command ∷ commands) = HasNoRoomFor before (text_of command)
+IsTooLong before (command ∷ commands) = HasNoRoomFor before (act_bytes (command_act command))
 
 -- something is left to do: a command, or the rest of an evaluation
 abbrev pub HasRest : Phase → List Command → Type 0
@@ -32,4 +32,4 @@ HasRest CutShort commands = Unit {0}
 -- is too long, or the history is full and something is left to do.
 abbrev pub IsLimited : List Entry → Progress → Type 0
 IsLimited before p = (p.limited ≡ true) ⊎ ((p.phase ≡ Between) × IsTooLong before p.commands)
-    ⊎ (HasRest p.phase p.commands × (4194304 ≤ length before))
+    ⊎ (HasRest p.phase p.commands × (most_entries ≤ length before))

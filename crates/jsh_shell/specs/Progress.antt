@@ -3,15 +3,15 @@ use Rattle.std.specs.Prelude.{◌≡◌, ℕ, ◌+◌, ◌-◌, ◌<◌, ◌==�
 use Rattle.jsh_snippet.specs.declared.acts.Act.{Act}
 use Rattle.jsh_snippet.specs.declared.acts.Act.TheVariants as act
 use Rattle.jsh_snippet.specs.declared.acts.Entry.{Entry}
-use Rattle.jsh_snippet.specs.declared.acts.Question.TheVariants as question
 use Rattle.jsh_snippet.specs.declared.replies.ReplyBody.{ReplyBody}
 use Rattle.jsh_snippet.specs.declared.replies.ReplyBody.TheVariants as body
 use Rattle.jsh_snippet.specs.declared.replies.Collected.TheVariants as «collected»
 use Rattle.jsh_snippet.specs.declared.replies.Refusal.TheVariants as refusal
 use Rattle.jsh_sched.specs.Pick.{picked}
 use Rattle.jsh_cut.specs.declared.command.Command.{Command}
-use Rattle.jsh_cut.specs.declared.command.Command.TheVariants.{Eval, Invalid}
+use Rattle.jsh_cut.specs.declared.command.Command.TheVariants.{Eval, Slash, Exit}
 use Rattle.jsh_core.specs.declared.world.RunView.{RunView}
+use Rattle.jsh_core.specs.Limits.{most_steps}
 use Rattle.jsh_core.specs.State.{State}
 use Rattle.jsh_core.specs.Snippets.{run_of}
 use Rattle.jsh_core.specs.Step.{step}
@@ -60,53 +60,58 @@ IsLast _ = Unit {0}
 abbrev pub next_thread : State → Progress → RunView → Option ℕ
 next_thread s p run = if run.over then None else picked s.world.states p.cursor (Some run.main) (not (p.last_turn == run.main))
 
--- A turn is of the thread whose turn it is, for as many steps as are left, up to 256. It has fewer only where the
--- thread can't go on behind it, or where memory was wanting.
-pub record IsTurn (budget run used thread steps : ℕ) (s after : State) (p q : Progress) : Type 0 where
+-- A turn is of the thread whose turn it is, for as many steps as are left, up to those of one turn, and its reply
+-- counts them all. It has fewer only where the thread can't go on behind it, or where memory was wanting.
+pub record IsTurn (budget run used thread steps : ℕ) (s after : State) (reply : ReplyBody) (p q : Progress) : Type 0 where
   pub picked : (view : RunView) × (run_view s run ≡ Some view) × (next_thread s p view ≡ Some thread)
       × (q.cursor ≡ (if thread == view.main then p.cursor else thread))
   pub some : 0 < steps
-  pub most : (steps ≡ min 256 (budget - used)) ⊎ (steps < min 256 (budget - used))
-  pub fewer : steps < min 256 (budget - used) → (can_go_on after.world thread ≡ false) ⊎ (q.phase ≡ CutShort)
+  pub most : (steps ≡ min most_steps (budget - used)) ⊎ (steps < min most_steps (budget - used))
+  pub fewer : steps < min most_steps (budget - used) → (can_go_on after.world thread ≡ false) ⊎ (q.phase ≡ CutShort)
+  pub counted : reply ≡ body.Turned steps
   pub phase : (q.phase ≡ Evaluating run (used + steps)) ⊎ (q.phase ≡ CutShort)
   pub commands : q.commands ≡ p.commands
   pub last_turn : q.last_turn ≡ thread
   pub limited : q.limited ≡ false
   pub has_left : q.has_left ≡ false
 
--- what an own entry makes of the progress: a snippet is handed in for the next command
-abbrev pub Submits : State → Progress → List Command → List ℕ → ReplyBody → Progress → Type 0
-Submits s p [] source reply q = ⊥
-Submits s p (Eval text ∷ commands) source reply q = (source ≡ text) × (q ≡ record p {
+-- the act that a command stands for
+abbrev pub command_act : Command → Act
+command_act (Eval source) = act.Submit source
+command_act (Slash what) = what
+command_act Exit = act.Leave
+
+-- what an own entry between two commands makes of the progress: it is the act of the next one
+abbrev pub TakesNext : Progress → List Command → Act → ReplyBody → Progress → Type 0
+TakesNext p [] what reply q = ⊥
+TakesNext p (command ∷ commands) what reply q = (what ≡ command_act command) × (q ≡ record p {
   phase = phase_after (run_of reply);
   commands = commands;
   limited = is_limit reply;
 })
-Submits s p (Invalid text ∷ commands) source reply q = ⊥
 
--- the next command is a line that no command is, and it is asked what that is
-abbrev pub Asks : Progress → List Command → List ℕ → ReplyBody → Progress → Type 0
-Asks p [] line reply q = ⊥
-Asks p (Eval text ∷ commands) line reply q = ⊥
-Asks p (Invalid text ∷ commands) line reply q = (line ≡ text) × (q ≡ record p {
-  commands = commands;
-  limited = is_limit reply;
-})
-
--- each entry of the client itself
-abbrev pub OwnGoes : ℕ → State → Progress → Phase → Act → State → ReplyBody → Progress → Type 0
-OwnGoes budget s p Between (act.Submit source) after reply q = Submits s p p.commands source reply q
-OwnGoes budget s p Between (act.Ask (question.Invalid line)) after reply q = Asks p p.commands line reply q
-OwnGoes budget s p (Evaluating run used) (act.Turn thread steps) after reply q = IsTurn budget run used thread steps s after p q
-OwnGoes budget s p (Evaluating run used) (act.Collect asked) after reply q =
+-- what an own entry within an evaluation makes of it: a turn, or the collection of its run
+abbrev pub Evaluates : ℕ → State → Progress → ℕ → ℕ → Act → State → ReplyBody → Progress → Type 0
+Evaluates budget s p run used (act.Turn thread steps) after reply q = IsTurn budget run used thread steps s after reply p q
+Evaluates budget s p run used (act.Collect asked) after reply q =
     (asked ≡ run) × (used < budget) × IsLast reply × (q ≡ record p { phase = Between; limited = is_limit reply })
-OwnGoes budget s p phase act.Leave after reply q = q ≡ record p { has_left = true }
-OwnGoes budget s p phase _ after reply q = ⊥
+Evaluates budget s p run used _ after reply q = ⊥
+
+-- each entry of the client itself, other than its leave
+abbrev pub GoesOn : ℕ → State → Progress → Phase → Act → State → ReplyBody → Progress → Type 0
+GoesOn budget s p Between what after reply q = TakesNext p p.commands what reply q
+GoesOn budget s p (Evaluating run used) what after reply q = Evaluates budget s p run used what after reply q
+GoesOn budget s p CutShort what after reply q = ⊥
+
+-- each entry of the client itself: it can leave at any time
+abbrev pub OwnGoes : ℕ → State → Progress → Act → State → ReplyBody → Progress → Type 0
+OwnGoes budget s p act.Leave after reply q = q ≡ record p { has_left = true }
+OwnGoes budget s p what after reply q = GoesOn budget s p p.phase what after reply q
 
 -- An entry takes the client from one progress to the next. Nobody goes on after its leave.
 abbrev pub Goes : ℕ → ℕ → State → Progress → Entry → Progress → Type 0
 Goes budget client s p entry q = MatchBool (entry.client == client)
-    ((p.has_left ≡ false) × OwnGoes budget s p p.phase entry.act (step s entry).state (step s entry).reply.body q)
+    ((p.has_left ≡ false) × OwnGoes budget s p entry.act (step s entry).state (step s entry).reply.body q)
     (q ≡ p)
 
 -- the entries take the client from one progress to another

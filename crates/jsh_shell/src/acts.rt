@@ -1,21 +1,57 @@
-ghost use Rattle.std.specs.Prelude.{◌≡◌, ◌<◌, ◌≤◌, false, length, slice_get, Some, Err, IfErr, IfOk, OnErr, OnOk};
+ghost use Rattle.std.specs.Prelude.{◌≡◌, ◌<◌, false, length, slice_get, Some, Err, IfErr, IfOk, OnErr, OnOk};
 ghost use Rattle.std.specs.Io.KnownBytes.{append_known};
 ghost use Rattle.jsh_render.specs.Texts.{shown};
+ghost use Rattle.jsh_core.specs.Acts.{is_last};
+ghost use Rattle.jsh_core.specs.Questions.{question_bytes};
 ghost use Rattle.jsh_core.specs.Snippets.{run_of};
-ghost use Rattle.jsh_core.specs.History.{Allows};
+ghost use Rattle.jsh_core.specs.History.{act_bytes, MayDo};
 ghost use Rattle.jsh_shell.specs.declared.halts.Halt.TheVariants as halt;
-ghost use Rattle.jsh_shell.specs.Progress.{is_limit};
+ghost use Rattle.jsh_shell.specs.Progress.{command_act, is_limit};
 ghost use Rattle.jsh_shell.specs.Transcript.{is_turn};
-ghost use Rattle.jsh_shell.specs.Serving.{Fails, HasCause, Shows, WritesPart};
+ghost use Rattle.jsh_shell.specs.Serving.{Counts, Fails, IsOpen, Shows, WritesPart};
 
 use crate::halts::Halt;
 use jsh_core::Core;
+use jsh_cut::Command;
 use jsh_io::{Sink, write_whole};
 use jsh_render::show;
-use jsh_snippet::{Entry, Refusal, Reply, ReplyBody};
+use jsh_snippet::{Act, Entry, Question, Refusal, Reply, ReplyBody};
 use jsh_steps::Steps;
+use jsh_text::NoMemory;
 use std::alloc::Global;
 use std::sync::ledger::Ledger;
+
+/// The act that a command stands for.
+pub fn act_of(command: Command) -> Act
+    ensures { result ≡ command_act command }
+{
+    match command {
+        Command::Eval(source) => Act::Submit { source },
+        Command::Slash(what) => what,
+        Command::Exit => Act::Leave,
+    }
+}
+
+/// The bytes of text that a question hands in.
+fn question_len(question: &Question) -> usize
+    ensures { result ≡ question_bytes question.now }
+{
+    match question {
+        Question::Invalid(line) => line.as_str().len(),
+        _ => 0,
+    }
+}
+
+/// The bytes of text that an act hands in.
+pub fn text_len(what: &Act) -> usize
+    ensures { result ≡ act_bytes what.now }
+{
+    match what {
+        Act::Submit { source } => source.as_str().len(),
+        Act::Ask { question } => question_len(question),
+        _ => 0,
+    }
+}
 
 /// Whether an act was refused at a limit.
 pub fn is_limit(body: &ReplyBody) -> bool
@@ -54,13 +90,13 @@ fn write_shown<O: Sink>(
 ) -> Result<(), Halt>
     ensures ok { OnOk result (O.held sink.new ≡ append_known (O.held sink.old) (shown entry.now reply.now)) }
     ensures err { OnErr result (WritesPart (O.held sink.old) (O.held sink.new) (shown entry.now reply.now)) }
-    ensures cause { IfErr result (λ why. HasCause why (O.faults sink.old) (O.faults sink.new)) }
     ensures limit { result ≡ Err halt.Limit → ⊥ }
-    ensures never_falls { O.faults sink.old ≤ O.faults sink.new }
+    ensures counts { Counts result (O.faults sink.old) (O.faults sink.new) }
+    ensures stream { O.stream sink.new ≡ O.stream sink.old }
 {
     let bytes = match show(alloc, entry, reply) {
         Ok(bytes) => bytes,
-        Err(_) => return Err(Halt::NoMemory),
+        Err(NoMemory) => return Err(Halt::NoMemory),
     };
     match write_whole(sink, &bytes) {
         Ok(()) => Ok(()),
@@ -68,7 +104,7 @@ fn write_shown<O: Sink>(
     }
 }
 
-/// Does an act other than a turn, and writes what is said to it.
+/// Does an act other than a turn, behind which the client stays, and writes what is said to it.
 pub fn perform<O: Sink, L: Ledger>(
     alloc: Global,
     core: &mut Core,
@@ -76,12 +112,15 @@ pub fn perform<O: Sink, L: Ledger>(
     sink: &mut O,
     steps: &mut Steps<L>,
 ) -> Result<Reply, Halt>
-    requires allows { Allows core.old entry }
+    requires open { IsOpen entry.client core.old }
+    requires may { MayDo core.old entry.client entry.act }
     requires quiet { is_turn entry.act ≡ false }
+    requires stays { is_last entry.act ≡ false }
     ensures ok { IfOk result (λ reply. Shows core.old core.new entry reply (O.held sink.old) (O.held sink.new)) }
     ensures err { IfErr result (λ why. Fails why core.old core.new entry (O.held sink.old) (O.held sink.new)) }
-    ensures cause { IfErr result (λ why. HasCause why (O.faults sink.old) (O.faults sink.new)) }
-    ensures never_falls { O.faults sink.old ≤ O.faults sink.new }
+    ensures open { IsOpen entry.client core.new }
+    ensures counts { Counts result (O.faults sink.old) (O.faults sink.new) }
+    ensures stream { O.stream sink.new ≡ O.stream sink.old }
 {
     let place = core.len();
     let reply = match core.apply(alloc, entry, steps) {

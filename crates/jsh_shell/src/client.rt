@@ -1,15 +1,16 @@
 ghost use Rattle.std.specs.Prelude.{◌≡◌, ℕ, ◌^◌, ◌++◌, ◌∷◌, [], ◌<◌, ◌≤◌, ◌↔◌, ◌⊎◌, List, Option, Some, IfSome, IsNone, IsSomeAnd, OnErr, OnOk, length, vec_len, vec_capacity};
 ghost use Rattle.std.specs.List.{All};
 ghost use Rattle.jsh_snippet.specs.declared.acts.Act.TheVariants as act;
-ghost use Rattle.jsh_io.specs.Count.{Rose};
 ghost use Rattle.jsh_io.specs.Inputs.{IsEmptyWhereTold};
 ghost use Rattle.jsh_core.specs.History.{Allows, IsLegal};
 ghost use Rattle.jsh_shell.specs.Budget.{default_budget};
 ghost use Rattle.jsh_shell.specs.Journal.{entry_of, IsFramed, IsServed};
 ghost use Rattle.jsh_shell.specs.Serving.{IsOpen};
+ghost use Rattle.jsh_shell.specs.Statuses.{memory_short};
 
 use crate::reports::{ClientReport, Report};
 use crate::serving::{PIECE, serve_pieces};
+use crate::statuses::MEMORY_SHORT;
 use jsh_core::Core;
 use jsh_io::{Sink, Source};
 use jsh_snippet::{Act, Entry};
@@ -106,21 +107,23 @@ pub fn serve_client<I: Source + Drop, O: Sink + Drop, L: Ledger>(
     ensures legal { IsLegal result.journal.items }
     ensures served { All (λ r. (r.number ≡ 1) × (r.status ≡ result.status)
         × IsServed default_budget r.number r.status result.journal.items (I.left source) (I.left r.source) (O.held r.sink)
-        (Rose (I.faults source) (I.faults r.source)) (Rose (O.faults sink) (O.faults r.sink))) result.clients.items }
-    ensures alone { (result.clients.items ≡ []) → (result.status ≡ 5) }
+        (I.faults source) (I.faults r.source) (O.faults sink) (O.faults r.sink)) result.clients.items }
+    ensures stream { All (λ r. O.stream r.sink ≡ O.stream sink) result.clients.items }
+    ensures alone { (result.clients.items ≡ []) → (result.status ≡ memory_short) }
+    ensures empty { (result.journal.items ≡ []) → (result.clients.items ≡ []) }
     ensures one { length result.clients.items ≤ 1 }
     ensures no_file { IsNone result.journal_sink × (result.journal_status ≡ 0) }
     ensures framed { (result.journal.items ≡ []) ⊎ IsFramed (length result.clients.items) result.journal.items }
 {
     let mut core = match Core::new(alloc) {
         Ok(core) => core,
-        Err(_refused) => return report_without(5, Vec::new(alloc), clients),
+        Err(_refused) => return report_without(MEMORY_SHORT, Vec::new(alloc), clients),
     };
     match enter_first(alloc, &mut core, steps) {
         Ok(()) => (),
         Err(_refused) => {
             close(alloc, &mut core, steps);
-            return report_without(5, core.into_history(), clients);
+            return report_without(MEMORY_SHORT, core.into_history(), clients);
         }
     }
     let mut source = source;

@@ -1,50 +1,47 @@
-ghost use Rattle.std.specs.Prelude.{◌≡◌, ◌≤◌, ◌⊎◌, ◌∷◌, [], ℕ, true, false, length, Err, IfErr, IfOk, IfSome, IsSome, OnOk};
-ghost use Rattle.jsh_snippet.specs.declared.acts.Act.TheVariants as act;
-ghost use Rattle.jsh_cut.specs.declared.command.Command.TheVariants.{Eval};
+ghost use Rattle.std.specs.Prelude.{◌≡◌, ◌∷◌, [], Err, IfErr, IfOk, IfSome, IsSome, OnOk};
 ghost use Rattle.jsh_core.specs.declared.world.RunView.{RunView};
+ghost use Rattle.jsh_core.specs.Fresh.{IsFresh};
 ghost use Rattle.jsh_core.specs.Runs.{run_view};
-ghost use Rattle.jsh_core.specs.History.{state_of, MayDo};
-ghost use Rattle.jsh_core.proofs.Evaluation.{IsFresh};
+ghost use Rattle.jsh_core.specs.History.{state_of};
 ghost use Rattle.jsh_shell.specs.declared.halts.Halt.TheVariants as halt;
-ghost use Rattle.jsh_shell.specs.Serving.{HandsIn, HandsOut, HandsOutPart, HasCause, IsOpen, IsRunFresh, Serves, ServesPart, Turns, TurnsPart};
+ghost use Rattle.jsh_shell.specs.Budget.{default_budget};
+ghost use Rattle.jsh_shell.specs.Serving.{Counts, HandsIn, HandsOut, HandsOutPart, IsOpen, IsRunFresh, IsServable, Serves, ServesPart, Turns, TurnsPart};
 
-use crate::acts::{is_limit, perform, run_of};
+use crate::acts::{act_of, is_limit, perform, run_of, text_len};
 use crate::halts::Halt;
-use crate::room::{MAX_HISTORY, has_room_for};
-use jsh_core::Core;
+use crate::room::has_room_for;
+use jsh_core::{Core, MOST_ENTRIES, MOST_STEPS};
+use jsh_cut::Command;
 use jsh_io::Sink;
 use jsh_snippet::{Act, Entry};
 use jsh_steps::Steps;
-use jsh_tree::SrcText;
 use std::alloc::Global;
 use std::sync::ledger::Ledger;
 
-/// The most steps of a turn.
-const MAX_TURN: u32 = 256;
-
-/// Hands in a snippet, and writes what is said to it. The answer is its run.
+/// Hands in a command, and writes what is said to it. The answer is its run.
 #[tactic(none)]
 fn hand_in<O: Sink, L: Ledger>(
     alloc: Global,
     core: &mut Core,
     client: u32,
     sink: &mut O,
-    text: SrcText,
+    command: Command,
     steps: &mut Steps<L>,
 ) -> Result<Option<u32>, Halt>
     requires open { IsOpen client core.old }
-    requires may { MayDo core.old client (act.Submit text) }
-    ensures ok { IfOk result (λ run. HandsIn client core.old core.new (O.held sink.old) (O.held sink.new) text run) }
+    requires servable { IsServable command }
+    ensures ok { IfOk result (λ run. HandsIn default_budget client core.old core.new (O.held sink.old) (O.held sink.new) command run) }
     ensures fresh { IfOk result (λ run. IsRunFresh (state_of core.new) client run) }
-    ensures err { IfErr result (λ why. ServesPart why client core.old core.new (O.held sink.old) (O.held sink.new) (Eval text ∷ [])) }
+    ensures err { IfErr result (λ why. ServesPart why default_budget client core.old core.new (O.held sink.old) (O.held sink.new) (command ∷ [])) }
     ensures open { IsOpen client core.new }
-    ensures cause { IfErr result (λ why. HasCause why (O.faults sink.old) (O.faults sink.new)) }
-    ensures never_falls { O.faults sink.old ≤ O.faults sink.new }
+    ensures counts { Counts result (O.faults sink.old) (O.faults sink.new) }
+    ensures stream { O.stream sink.new ≡ O.stream sink.old }
 {
-    let entry = Entry {
-        client,
-        act: Act::Submit { source: text },
-    };
+    let what = act_of(command);
+    if !has_room_for(core, text_len(&what)) {
+        return Err(Halt::Limit);
+    }
+    let entry = Entry { client, act: what };
     match perform(alloc, core, entry, sink, steps) {
         Ok(reply) => {
             if is_limit(&reply.body) {
@@ -78,12 +75,12 @@ fn take_turn<L: Ledger>(
 ) -> Result<(), Halt>
     requires open { IsOpen client core.old }
     requires fresh { IsFresh (state_of core.old) client run }
-    ensures ok { OnOk result (Turns client core.old core.new run) }
-    ensures err { IfErr result (λ why. TurnsPart why client core.old core.new run) }
+    ensures ok { OnOk result (Turns default_budget client core.old core.new run) }
+    ensures err { IfErr result (λ why. TurnsPart why default_budget client core.old core.new run) }
     ensures open { IsOpen client core.new }
     ensures sink { result ≡ Err halt.SinkFailed → ⊥ }
 {
-    if core.len() >= MAX_HISTORY {
+    if core.len() >= MOST_ENTRIES {
         return Err(Halt::Limit);
     }
     let thread = main_of(core, run);
@@ -91,7 +88,7 @@ fn take_turn<L: Ledger>(
         client,
         act: Act::Turn {
             thread,
-            steps: MAX_TURN,
+            steps: MOST_STEPS,
         },
     };
     match core.apply(alloc, entry, steps) {
@@ -112,13 +109,13 @@ fn hand_out<O: Sink, L: Ledger>(
     steps: &mut Steps<L>,
 ) -> Result<(), Halt>
     requires open { IsOpen client core.old }
-    ensures ok { OnOk result (HandsOut client core.old core.new (O.held sink.old) (O.held sink.new) run) }
-    ensures err { IfErr result (λ why. HandsOutPart why client core.old core.new (O.held sink.old) (O.held sink.new) run) }
+    ensures ok { OnOk result (HandsOut default_budget client core.old core.new (O.held sink.old) (O.held sink.new) run) }
+    ensures err { IfErr result (λ why. HandsOutPart why default_budget client core.old core.new (O.held sink.old) (O.held sink.new) run) }
     ensures open { IsOpen client core.new }
-    ensures cause { IfErr result (λ why. HasCause why (O.faults sink.old) (O.faults sink.new)) }
-    ensures never_falls { O.faults sink.old ≤ O.faults sink.new }
+    ensures counts { Counts result (O.faults sink.old) (O.faults sink.new) }
+    ensures stream { O.stream sink.new ≡ O.stream sink.old }
 {
-    if core.len() >= MAX_HISTORY {
+    if core.len() >= MOST_ENTRIES {
         return Err(Halt::Limit);
     }
     let entry = Entry {
@@ -132,27 +129,25 @@ fn hand_out<O: Sink, L: Ledger>(
     Ok(())
 }
 
-/// Evaluates a snippet for a client, and writes what is said to it.
+/// Serves a command: it is handed in, and where it gets a run, that is evaluated.
 #[tactic(none)]
-pub fn evaluate<O: Sink, L: Ledger>(
+pub fn serve_command<O: Sink, L: Ledger>(
     alloc: Global,
     core: &mut Core,
     client: u32,
     sink: &mut O,
-    text: SrcText,
+    command: Command,
     steps: &mut Steps<L>,
 ) -> Result<(), Halt>
-    requires { IsOpen client core.old }
-    ensures ok { OnOk result (Serves client core.old core.new (O.held sink.old) (O.held sink.new) (Eval text ∷ [])) }
-    ensures err { IfErr result (λ why. ServesPart why client core.old core.new (O.held sink.old) (O.held sink.new) (Eval text ∷ [])) }
+    requires open { IsOpen client core.old }
+    requires servable { IsServable command }
+    ensures ok { OnOk result (Serves default_budget client core.old core.new (O.held sink.old) (O.held sink.new) (command ∷ [])) }
+    ensures err { IfErr result (λ why. ServesPart why default_budget client core.old core.new (O.held sink.old) (O.held sink.new) (command ∷ [])) }
     ensures open { IsOpen client core.new }
-    ensures cause { IfErr result (λ why. HasCause why (O.faults sink.old) (O.faults sink.new)) }
-    ensures never_falls { O.faults sink.old ≤ O.faults sink.new }
+    ensures counts { Counts result (O.faults sink.old) (O.faults sink.new) }
+    ensures stream { O.stream sink.new ≡ O.stream sink.old }
 {
-    if !has_room_for(core, &text) {
-        return Err(Halt::Limit);
-    }
-    let run = match hand_in(alloc, core, client, sink, text, steps) {
+    let run = match hand_in(alloc, core, client, sink, command, steps) {
         Ok(run) => run,
         Err(why) => return Err(why),
     };

@@ -1,3 +1,4 @@
+use crate::statuses::{LIMIT_MET, MEMORY_SHORT, WRITE_FAILED};
 use jsh_text::NoMemory;
 use std::alloc::AllocError;
 
@@ -41,9 +42,9 @@ impl Halt {
         ensures { result ≡ status_of self }
     {
         match self {
-            Halt::NoMemory => 5,
-            Halt::Limit => 6,
-            Halt::SinkFailed => 4,
+            Halt::NoMemory => MEMORY_SHORT,
+            Halt::Limit => LIMIT_MET,
+            Halt::SinkFailed => WRITE_FAILED,
         }
     }
 }

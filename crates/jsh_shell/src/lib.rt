@@ -3,9 +3,7 @@
 #![tactic(auto)]
 
 mod acts;
-mod asking;
 mod client;
-mod dispatch;
 mod evaluation;
 mod halts;
 mod laws;
@@ -14,7 +12,9 @@ mod reports;
 mod room;
 mod serving;
 mod shell;
+mod statuses;
 
 pub use laws::one_way;
 pub use reports::{ClientReport, Report};
 pub use shell::{USAGE, run};
+pub use statuses::{ALL_SERVED, LIMIT_MET, MEMORY_SHORT, READ_FAILED, WORDS_REFUSED, WRITE_FAILED};

@@ -1,13 +1,18 @@
 ghost use Rattle.std.specs.Prelude.{◌≡◌, ◌+◌, ◌*◌, ◌^◌, ◌<◌, ◌≤◌, ◌++◌, [], length, IfErr, IfOk, OnOk};
+ghost use Rattle.std.specs.List.{All};
 ghost use Rattle.jsh_lines.specs.Lines.{as_text};
 ghost use Rattle.jsh_cut.specs.Commands as cutting;
+ghost use Rattle.jsh_cut.specs.Cuttings.{coming};
+ghost use Rattle.jsh_shell.specs.declared.halts.Halt.TheVariants as halt;
+ghost use Rattle.jsh_shell.specs.Budget.{default_budget};
 ghost use Rattle.jsh_shell.specs.Cutting.{ServesCut, ending};
-ghost use Rattle.jsh_shell.specs.Serving.{HasCause, IsOpen, Serves, ServesPart};
+ghost use Rattle.jsh_shell.specs.Serving.{Counts, IsOpen, IsServable, Serves, ServesPart};
+ghost use Rattle.jsh_shell.specs.Upcoming.{comes};
 
-use crate::dispatch::serve_commands;
+use crate::evaluation::serve_command;
 use crate::halts::Halt;
 use jsh_core::Core;
-use jsh_cut::{Held, cut_end, cut_line};
+use jsh_cut::{Command, Cutting, Held, Next, cut_end, cut_line};
 use jsh_io::Sink;
 use jsh_lines::text_of;
 use jsh_steps::Steps;
@@ -23,6 +28,69 @@ pub struct Behind {
     pub exits: bool,
 }
 
+/// What comes next of a line.
+#[derive(Drop)]
+pub enum Upcoming {
+    /// A command, and what comes behind it.
+    First(Command, Cutting),
+    /// No more commands.
+    Last(Behind),
+}
+
+/// What comes next of a line.
+fn next_of(alloc: Global, cutting: Cutting) -> Result<Upcoming, Halt>
+    ensures next { IfOk result (λ next. comes next ≡ coming cutting) }
+    ensures err { IfErr result (λ why. why ≡ halt.NoMemory) }
+{
+    match cutting.next(alloc) {
+        Ok(Next::Eval(source, rest)) => Ok(Upcoming::First(Command::Eval(source), rest)),
+        Ok(Next::Slash(what, rest)) => Ok(Upcoming::First(Command::Slash(what), rest)),
+        Ok(Next::Waits(held)) => Ok(Upcoming::Last(Behind { held, exits: false })),
+        Ok(Next::Exit) => Ok(Upcoming::Last(Behind {
+            held: Held::Nothing,
+            exits: true,
+        })),
+        Err(_refused) => Err(Halt::NoMemory),
+    }
+}
+
+/// Cuts a command and serves it, and so on.
+#[tactic(none)]
+fn serve_cutting<O: Sink, L: Ledger>(
+    alloc: Global,
+    core: &mut Core,
+    client: u32,
+    sink: &mut O,
+    cutting: Cutting,
+    steps: &mut Steps<L>,
+) -> Result<Behind, Halt>
+    requires open { IsOpen client core.old }
+    requires servable { All IsServable (coming cutting).commands }
+    ensures ok { IfOk result (λ behind. ServesCut default_budget client core.old core.new (O.held sink.old) (O.held sink.new) (coming cutting) behind) }
+    ensures err { IfErr result (λ why. ServesPart why default_budget client core.old core.new (O.held sink.old) (O.held sink.new) (coming cutting).commands) }
+    ensures open { IsOpen client core.new }
+    ensures counts { Counts result (O.faults sink.old) (O.faults sink.new) }
+    ensures stream { O.stream sink.new ≡ O.stream sink.old }
+{
+    let mut left = cutting;
+    'each: loop {
+        let next = match next_of(alloc, left) {
+            Ok(next) => next,
+            Err(why) => return Err(why),
+        };
+        match next {
+            Upcoming::Last(behind) => return Ok(behind),
+            Upcoming::First(command, rest) => {
+                match serve_command(alloc, core, client, sink, command, steps) {
+                    Ok(()) => (),
+                    Err(why) => return Err(why),
+                }
+                left = rest;
+            }
+        }
+    }
+}
+
 /// Serves a client's line, which comes without its line feed.
 #[tactic(none)]
 fn serve_line<O: Sink, L: Ledger>(
@@ -36,29 +104,22 @@ fn serve_line<O: Sink, L: Ledger>(
 ) -> Result<Behind, Halt>
     requires open { IsOpen client core.old }
     requires few { length (cutting.held_text held) + 3 * length line.now + 1 < 2 ^ 32 }
-    ensures ok { IfOk result (λ behind. ServesCut client core.old core.new (O.held sink.old) (O.held sink.new) (cutting.cut_line held (as_text line.now)) behind) }
+    ensures ok { IfOk result (λ behind. ServesCut default_budget client core.old core.new (O.held sink.old) (O.held sink.new) (cutting.cut_line held (as_text line.now)) behind) }
     ensures few { IfOk result (λ behind. length (cutting.held_text behind.held) ≤ length (cutting.held_text held) + 3 * length line.now + 1) }
-    ensures err { IfErr result (λ why. ServesPart why client core.old core.new (O.held sink.old) (O.held sink.new) (cutting.cut_line held (as_text line.now)).commands) }
+    ensures err { IfErr result (λ why. ServesPart why default_budget client core.old core.new (O.held sink.old) (O.held sink.new) (cutting.cut_line held (as_text line.now)).commands) }
     ensures open { IsOpen client core.new }
-    ensures cause { IfErr result (λ why. HasCause why (O.faults sink.old) (O.faults sink.new)) }
-    ensures never_falls { O.faults sink.old ≤ O.faults sink.new }
+    ensures counts { Counts result (O.faults sink.old) (O.faults sink.new) }
+    ensures stream { O.stream sink.new ≡ O.stream sink.old }
 {
     let text = match text_of(alloc, line) {
         Ok(text) => text,
         Err(_refused) => return Err(Halt::NoMemory),
     };
-    let gives = match cut_line(alloc, held, text.as_str()) {
-        Ok(gives) => gives,
+    let cutting = match cut_line(alloc, held, text.as_str()) {
+        Ok(cutting) => cutting,
         Err(_refused) => return Err(Halt::NoMemory),
     };
-    match serve_commands(alloc, core, client, sink, gives.commands.as_slice(), steps) {
-        Ok(()) => (),
-        Err(why) => return Err(why),
-    }
-    Ok(Behind {
-        held: gives.held,
-        exits: gives.exits,
-    })
+    serve_cutting(alloc, core, client, sink, cutting, steps)
 }
 
 /// Serves the line that was begun and ends with these bytes.
@@ -75,13 +136,13 @@ pub fn serve_begun<O: Sink, L: Ledger>(
 ) -> Result<Behind, Halt>
     requires open { IsOpen client core.old }
     requires few { length (cutting.held_text held) + 3 * (length begun.old.items + length end.now) + 1 < 2 ^ 32 }
-    ensures ok { IfOk result (λ behind. ServesCut client core.old core.new (O.held sink.old) (O.held sink.new) (cutting.cut_line held (as_text (begun.old.items ++ end.now))) behind) }
+    ensures ok { IfOk result (λ behind. ServesCut default_budget client core.old core.new (O.held sink.old) (O.held sink.new) (cutting.cut_line held (as_text (begun.old.items ++ end.now))) behind) }
     ensures begun { OnOk result (begun.new.items ≡ []) }
     ensures few { IfOk result (λ behind. length (cutting.held_text behind.held) ≤ length (cutting.held_text held) + 3 * (length begun.old.items + length end.now) + 1) }
-    ensures err { IfErr result (λ why. ServesPart why client core.old core.new (O.held sink.old) (O.held sink.new) (cutting.cut_line held (as_text (begun.old.items ++ end.now))).commands) }
+    ensures err { IfErr result (λ why. ServesPart why default_budget client core.old core.new (O.held sink.old) (O.held sink.new) (cutting.cut_line held (as_text (begun.old.items ++ end.now))).commands) }
     ensures open { IsOpen client core.new }
-    ensures cause { IfErr result (λ why. HasCause why (O.faults sink.old) (O.faults sink.new)) }
-    ensures never_falls { O.faults sink.old ≤ O.faults sink.new }
+    ensures counts { Counts result (O.faults sink.old) (O.faults sink.new) }
+    ensures stream { O.stream sink.new ≡ O.stream sink.old }
 {
     match begun.extend_from_slice(end) {
         Ok(()) => (),
@@ -105,19 +166,17 @@ fn serve_held<O: Sink, L: Ledger>(
     held: Held,
     steps: &mut Steps<L>,
 ) -> Result<(), Halt>
-    requires open { IsOpen client core.old }
-    requires few { length (cutting.held_text held) < 2 ^ 32 }
-    ensures ok { OnOk result (Serves client core.old core.new (O.held sink.old) (O.held sink.new) (cutting.cut_end held)) }
-    ensures err { IfErr result (λ why. ServesPart why client core.old core.new (O.held sink.old) (O.held sink.new) (cutting.cut_end held)) }
+    requires { IsOpen client core.old }
+    ensures ok { OnOk result (Serves default_budget client core.old core.new (O.held sink.old) (O.held sink.new) (cutting.cut_end held)) }
+    ensures err { IfErr result (λ why. ServesPart why default_budget client core.old core.new (O.held sink.old) (O.held sink.new) (cutting.cut_end held)) }
     ensures open { IsOpen client core.new }
-    ensures cause { IfErr result (λ why. HasCause why (O.faults sink.old) (O.faults sink.new)) }
-    ensures never_falls { O.faults sink.old ≤ O.faults sink.new }
+    ensures counts { Counts result (O.faults sink.old) (O.faults sink.new) }
+    ensures stream { O.stream sink.new ≡ O.stream sink.old }
 {
-    let commands = match cut_end(alloc, held) {
-        Ok(commands) => commands,
-        Err(_refused) => return Err(Halt::NoMemory),
-    };
-    serve_commands(alloc, core, client, sink, commands.as_slice(), steps)
+    match serve_cutting(alloc, core, client, sink, cut_end(held), steps) {
+        Ok(_behind) => Ok(()),
+        Err(why) => Err(why),
+    }
 }
 
 /// Serves the rest of an input that has ended: a last line without line feed, and then what is held.
@@ -133,11 +192,11 @@ pub fn serve_end<O: Sink, L: Ledger>(
 ) -> Result<(), Halt>
     requires open { IsOpen client core.old }
     requires few { length (cutting.held_text held) + 3 * length rest.now + 1 < 2 ^ 32 }
-    ensures ok { OnOk result (Serves client core.old core.new (O.held sink.old) (O.held sink.new) (ending held rest.now)) }
-    ensures err { IfErr result (λ why. ServesPart why client core.old core.new (O.held sink.old) (O.held sink.new) (ending held rest.now)) }
+    ensures ok { OnOk result (Serves default_budget client core.old core.new (O.held sink.old) (O.held sink.new) (ending held rest.now)) }
+    ensures err { IfErr result (λ why. ServesPart why default_budget client core.old core.new (O.held sink.old) (O.held sink.new) (ending held rest.now)) }
     ensures open { IsOpen client core.new }
-    ensures cause { IfErr result (λ why. HasCause why (O.faults sink.old) (O.faults sink.new)) }
-    ensures never_falls { O.faults sink.old ≤ O.faults sink.new }
+    ensures counts { Counts result (O.faults sink.old) (O.faults sink.new) }
+    ensures stream { O.stream sink.new ≡ O.stream sink.old }
 {
     if rest.is_empty() {
         return serve_held(alloc, core, client, sink, held, steps);

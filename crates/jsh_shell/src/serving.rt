@@ -1,13 +1,15 @@
-ghost use Rattle.std.specs.Prelude.{◌≡◌, ◌+◌, ◌*◌, ◌^◌, ◌<◌, ◌≤◌, ◌++◌, false, [], length, take, Ok, IfErr, IfOk, IfSome, OnErr};
+ghost use Rattle.std.specs.Prelude.{◌≡◌, ◌+◌, ◌*◌, ◌^◌, ◌<◌, ◌≤◌, ◌++◌, false, [], length, take, Ok, IfErr, IfOk, IfSome, OnErr, OnOk};
 ghost use Rattle.std.specs.Io.KnownBytes.{prepend_known};
 ghost use Rattle.jsh_lines.specs.Lines.{cut};
 ghost use Rattle.jsh_cut.specs.Commands.{held_text};
 ghost use Rattle.jsh_io.specs.Count.{Rose};
 ghost use Rattle.jsh_shell.specs.Cutting.{ServesCut, piece_gives};
-ghost use Rattle.jsh_shell.specs.Serving.{HasCause, IsOpen, IsServedBy, ServesPart};
+ghost use Rattle.jsh_shell.specs.Budget.{default_budget};
+ghost use Rattle.jsh_shell.specs.Serving.{Counts, IsOpen, IsServedBy, ServesPart};
 
 use crate::halts::Halt;
 use crate::lines::{Behind, serve_begun, serve_end};
+use crate::statuses::{ALL_SERVED, LIMIT_MET, READ_FAILED};
 use jsh_core::Core;
 use jsh_cut::Held;
 use jsh_io::{Failed, Sink, Source};
@@ -37,13 +39,13 @@ fn serve_piece<O: Sink, L: Ledger>(
     requires open { IsOpen client core.old }
     requires uncut { (cut begun.old.items).rest ≡ begun.old.items }
     requires few { length (held_text held) + 3 * (length begun.old.items + length piece.now) < 2 ^ 32 }
-    ensures ok { IfOk result (λ behind. ServesCut client core.old core.new (O.held sink.old) (O.held sink.new) (piece_gives held (begun.old.items ++ piece.now)) behind) }
+    ensures ok { IfOk result (λ behind. ServesCut default_budget client core.old core.new (O.held sink.old) (O.held sink.new) (piece_gives held (begun.old.items ++ piece.now)) behind) }
     ensures begun { IfOk result (λ behind. behind.exits ≡ false → begun.new.items ≡ (cut (begun.old.items ++ piece.now)).rest) }
     ensures few { IfOk result (λ behind. behind.exits ≡ false → length (held_text behind.held) + 3 * length begun.new.items ≤ length (held_text held) + 3 * (length begun.old.items + length piece.now)) }
-    ensures err { IfErr result (λ why. ServesPart why client core.old core.new (O.held sink.old) (O.held sink.new) (piece_gives held (begun.old.items ++ piece.now)).commands) }
+    ensures err { IfErr result (λ why. ServesPart why default_budget client core.old core.new (O.held sink.old) (O.held sink.new) (piece_gives held (begun.old.items ++ piece.now)).commands) }
     ensures open { IsOpen client core.new }
-    ensures cause { IfErr result (λ why. HasCause why (O.faults sink.old) (O.faults sink.new)) }
-    ensures never_falls { O.faults sink.old ≤ O.faults sink.new }
+    ensures counts { Counts result (O.faults sink.old) (O.faults sink.new) }
+    ensures stream { O.stream sink.new ≡ O.stream sink.old }
 {
     let mut waiting = held;
     let mut rest = piece;
@@ -78,7 +80,7 @@ fn read_some<I: Source>(source: &mut I, buffer: &mut [u8], room: usize) -> Resul
     ensures end { result ≡ Ok 0 → IfSome (I.left source.old) (λ bytes. bytes ≡ []) }
     ensures none_lost { OnErr result (I.left source.new ≡ I.left source.old) }
     ensures failed { OnErr result (Rose (I.faults source.old) (I.faults source.new)) }
-    ensures never_falls { I.faults source.old ≤ I.faults source.new }
+    ensures no_fault { OnOk result (I.faults source.new ≡ I.faults source.old) }
 {
     source.read(&mut buffer[..room])
 }
@@ -97,9 +99,10 @@ pub fn serve_pieces<I: Source, O: Sink, L: Ledger>(
 ) -> u8
     requires open { IsOpen client core.old }
     requires piece { length buffer.old ≡ PIECE }
-    ensures served { IsServedBy client result core.old core.new (I.left source.old) (I.left source.new) (O.held sink.old) (O.held sink.new)
-        (Rose (I.faults source.old) (I.faults source.new)) (Rose (O.faults sink.old) (O.faults sink.new)) }
+    ensures served { IsServedBy default_budget client result core.old core.new (I.left source.old) (I.left source.new) (O.held sink.old) (O.held sink.new)
+        (I.faults source.old) (I.faults source.new) (O.faults sink.old) (O.faults sink.new) }
     ensures open { IsOpen client core.new }
+    ensures stream { O.stream sink.new ≡ O.stream sink.old }
 {
     let mut held = Held::Nothing;
     let mut begun = Vec::new(alloc);
@@ -108,11 +111,11 @@ pub fn serve_pieces<I: Source, O: Sink, L: Ledger>(
         let room = PIECE.min(MOST_INPUT - total);
         let count = match read_some(source, buffer, room) {
             Ok(count) => count,
-            Err(_failed) => return 3,
+            Err(_failed) => return READ_FAILED,
         };
         if count == 0 {
             match serve_end(alloc, core, client, sink, held, begun.as_slice(), steps) {
-                Ok(()) => return 0,
+                Ok(()) => return ALL_SERVED,
                 Err(why) => return why.status(),
             }
         }
@@ -132,11 +135,11 @@ pub fn serve_pieces<I: Source, O: Sink, L: Ledger>(
         total += count;
         if behind.exits {
             if total < MOST_INPUT {
-                return 0;
+                return ALL_SERVED;
             }
-            return 6;
+            return LIMIT_MET;
         }
         held = behind.held;
     }
-    6
+    LIMIT_MET
 }

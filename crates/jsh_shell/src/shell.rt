@@ -1,15 +1,19 @@
-ghost use Rattle.std.specs.Prelude.{◌≡◌, ◌≢◌, [], ℕ, ◌<◌, ◌≤◌, ◌⊎◌, List, Option, Some, IfSome, IsNone, IsSomeAnd, length, vec_len, vec_capacity};
+ghost use Rattle.std.specs.Prelude.{◌≡◌, ◌≢◌, [], ℕ, ◌<◌, ◌≤◌, ◌⊎◌, List, Option, IsNone, length, vec_len, vec_capacity};
 ghost use Rattle.std.specs.List.{All};
 ghost use Rattle.std.specs.Io.KnownBytes.{append_known};
 ghost use Rattle.jsh_io.specs.Count.{Rose, TakesPart};
 ghost use Rattle.jsh_io.specs.Inputs.{IsEmptyWhereTold};
+ghost use Rattle.jsh_io.specs.Streams.{IsStreamWhereTold};
+ghost use Rattle.jsh_io.specs.Streams.StreamName.{StandardStream};
 ghost use Rattle.jsh_core.specs.History.{IsLegal};
 ghost use Rattle.jsh_shell.specs.Budget.{default_budget};
-ghost use Rattle.jsh_shell.specs.Journal.{IsFramed, IsServed, IsUsage};
+ghost use Rattle.jsh_shell.specs.Journal.{IsFramed, IsServed, IsUnread, IsUsage};
+ghost use Rattle.jsh_shell.specs.Statuses.{all_served, limit_met, memory_short, read_failed, words_refused};
 
 use crate::client::{push_report, report_without, serve_client};
 use crate::reports::{ClientReport, Report};
 use crate::serving::PIECE;
+use crate::statuses::{MEMORY_SHORT, READ_FAILED, WORDS_REFUSED};
 use jsh_io::{Desk, Gate, Sink, Source, write_whole};
 use jsh_steps::Steps;
 use std::alloc::Global;
@@ -41,8 +45,10 @@ fn serve_counted<I: Source + Drop, O: Sink + Drop, L: Ledger>(
     ensures legal { IsLegal result.journal.items }
     ensures served { All (λ r. (r.number ≡ 1) × (r.status ≡ result.status)
         × IsServed default_budget r.number r.status result.journal.items (I.left source) (I.left r.source) (O.held r.sink)
-        (Rose (I.faults source) (I.faults r.source)) (Rose (O.faults sink) (O.faults r.sink))) result.clients.items }
-    ensures alone { (result.clients.items ≡ []) → (result.status ≡ 5) }
+        (I.faults source) (I.faults r.source) (O.faults sink) (O.faults r.sink)) result.clients.items }
+    ensures stream { All (λ r. O.stream r.sink ≡ O.stream sink) result.clients.items }
+    ensures alone { (result.clients.items ≡ []) → (result.status ≡ memory_short) }
+    ensures empty { (result.journal.items ≡ []) → (result.clients.items ≡ []) }
     ensures one { length result.clients.items ≤ 1 }
     ensures no_file { IsNone result.journal_sink × (result.journal_status ≡ 0) }
     ensures framed { (result.journal.items ≡ []) ⊎ IsFramed (length result.clients.items) result.journal.items }
@@ -64,15 +70,17 @@ fn serve_standard<I: Source + Drop, O: Sink + Drop>(
     ensures legal { IsLegal result.journal.items }
     ensures served { All (λ r. (r.number ≡ 1) × (r.status ≡ result.status)
         × IsServed default_budget r.number r.status result.journal.items (I.left source) (I.left r.source) (O.held r.sink)
-        (Rose (I.faults source) (I.faults r.source)) (Rose (O.faults sink) (O.faults r.sink))) result.clients.items }
-    ensures alone { (result.clients.items ≡ []) → (result.status ≡ 5) }
+        (I.faults source) (I.faults r.source) (O.faults sink) (O.faults r.sink)) result.clients.items }
+    ensures stream { All (λ r. O.stream r.sink ≡ O.stream sink) result.clients.items }
+    ensures alone { (result.clients.items ≡ []) → (result.status ≡ memory_short) }
+    ensures empty { (result.journal.items ≡ []) → (result.clients.items ≡ []) }
     ensures one { length result.clients.items ≤ 1 }
     ensures no_file { IsNone result.journal_sink × (result.journal_status ≡ 0) }
     ensures framed { (result.journal.items ≡ []) ⊎ IsFramed (length result.clients.items) result.journal.items }
 {
     let mut buffer = match vec![in alloc; 0u8; PIECE] {
         Ok(buffer) => buffer,
-        Err(_refused) => return report_without(5, Vec::new(alloc), clients),
+        Err(_refused) => return report_without(MEMORY_SHORT, Vec::new(alloc), clients),
     };
     serve_counted::<I, O, Brand>(alloc, source, sink, &mut buffer, clients, Blank::new(1))
 }
@@ -87,8 +95,10 @@ fn refuse<I: Source + Drop, O: Sink + Drop>(
     requires none { clients.items ≡ [] }
     requires room { vec_len clients < vec_capacity clients }
     ensures journal { result.journal.items ≡ [] }
-    ensures status { result.status ≡ 2 }
-    ensures usage { All (λ r. (r.number ≡ 0) × (r.status ≡ 2) × ((O.held r.sink ≡ append_known (O.held sink) USAGE.now)
+    ensures status { result.status ≡ words_refused }
+    ensures unread { All (λ r. (I.left r.source ≡ I.left source) × (I.faults r.source ≡ I.faults source)) result.clients.items }
+    ensures stream { All (λ r. O.stream r.sink ≡ O.stream sink) result.clients.items }
+    ensures usage { All (λ r. (r.number ≡ 0) × (r.status ≡ words_refused) × ((O.held r.sink ≡ append_known (O.held sink) USAGE.now)
         ⊎ (TakesPart (O.held sink) (O.held r.sink) USAGE.now × Rose (O.faults sink) (O.faults r.sink)))) result.clients.items }
     ensures one { length result.clients.items ≡ 1 }
     ensures no_file { IsNone result.journal_sink × (result.journal_status ≡ 0) }
@@ -100,12 +110,12 @@ fn refuse<I: Source + Drop, O: Sink + Drop>(
         &mut clients,
         ClientReport {
             number: 0,
-            status: 2,
+            status: WORDS_REFUSED,
             source,
             sink,
         },
     );
-    report_without(2, Vec::new(alloc), clients)
+    report_without(WORDS_REFUSED, Vec::new(alloc), clients)
 }
 
 /// Refuses the words, over the standard streams where they can be opened.
@@ -118,8 +128,10 @@ fn refuse_words<D: Desk>(
     requires none { clients.items ≡ [] }
     requires room { vec_len clients < vec_capacity clients }
     ensures journal { result.journal.items ≡ [] }
-    ensures status { result.status ≡ 2 }
-    ensures usage { All (λ r. (r.number ≡ 0) × (r.status ≡ 2)
+    ensures status { result.status ≡ words_refused }
+    ensures unread { All (λ r. IsUnread (D.inputs desk.old) (D.In.left r.source) × (D.In.faults r.source ≡ 0)) result.clients.items }
+    ensures standard { All (λ r. IsStreamWhereTold (D.Out.stream r.sink) StandardStream) result.clients.items }
+    ensures usage { All (λ r. (r.number ≡ 0) × (r.status ≡ words_refused)
         × IsUsage (D.Out.held r.sink) USAGE.now (Rose 0 (D.Out.faults r.sink))) result.clients.items }
     ensures alone { (result.clients.items ≡ []) → Rose (D.input_faults desk.old) (D.input_faults desk.new) }
     ensures one { length result.clients.items ≤ 1 }
@@ -127,7 +139,7 @@ fn refuse_words<D: Desk>(
 {
     let (source, sink) = match desk.standard() {
         Ok(streams) => streams,
-        Err(_failed) => return report_without(2, Vec::new(alloc), clients),
+        Err(_failed) => return report_without(WORDS_REFUSED, Vec::new(alloc), clients),
     };
     refuse(alloc, source, sink, clients)
 }
@@ -144,21 +156,24 @@ fn serve_desk<D: Desk>(
     ensures legal { IsLegal result.journal.items }
     ensures framed { (result.journal.items ≡ []) ⊎ IsFramed (length result.clients.items) result.journal.items }
     ensures served { All (λ r. (r.number ≡ 1) × (r.status ≡ result.status) × ((given : Option (List ℕ))
-        × IfSome (D.inputs desk.old) (λ all. IsSomeAnd all.standard (λ bytes. given ≡ Some bytes))
+        × IsUnread (D.inputs desk.old) given
         × IsServed default_budget r.number r.status result.journal.items given (D.In.left r.source) (D.Out.held r.sink)
-        (Rose 0 (D.In.faults r.source)) (Rose 0 (D.Out.faults r.sink)))) result.clients.items }
+        0 (D.In.faults r.source) 0 (D.Out.faults r.sink))) result.clients.items }
+    ensures standard { All (λ r. IsStreamWhereTold (D.Out.stream r.sink) StandardStream) result.clients.items }
     ensures alone { (result.clients.items ≡ []) →
-        ((result.status ≡ 3) × Rose (D.input_faults desk.old) (D.input_faults desk.new)) ⊎ (result.status ≡ 5) }
+        ((result.status ≡ read_failed) × (result.journal.items ≡ []) × Rose (D.input_faults desk.old) (D.input_faults desk.new))
+        ⊎ (result.status ≡ memory_short) }
+    ensures empty { (result.journal.items ≡ []) → (result.clients.items ≡ []) }
     ensures healthy { (Rose (D.input_faults desk.old) (D.input_faults desk.new) → ⊥)
         → All (λ r. (Rose 0 (D.In.faults r.source) → ⊥) × (Rose 0 (D.Out.faults r.sink) → ⊥)) result.clients.items
-        → (result.status ≡ 0) ⊎ (result.status ≡ 6) ⊎ (result.status ≡ 5) }
-    ensures accepted { result.status ≢ 2 }
+        → (result.status ≡ all_served) ⊎ (result.status ≡ limit_met) ⊎ (result.status ≡ memory_short) }
+    ensures accepted { result.status ≢ words_refused }
     ensures one { length result.clients.items ≤ 1 }
     ensures no_file { IsNone result.journal_sink × (result.journal_status ≡ 0) }
 {
     let (source, sink) = match desk.standard() {
         Ok(streams) => streams,
-        Err(_failed) => return report_without(3, Vec::new(alloc), clients),
+        Err(_failed) => return report_without(READ_FAILED, Vec::new(alloc), clients),
     };
     serve_standard(alloc, source, sink, clients)
 }
@@ -184,27 +199,38 @@ pub fn run<R: Threads + Wait + Sync, D: Desk, G: Gate>(
     // Each client's entries follow its commands, it is written its transcript over the journal, and its
     // status has its cause.
     ensures served { words.now ≡ [] → All (λ r. (r.number ≡ 1) × (r.status ≡ result.status) × ((given : Option (List ℕ))
-        × IfSome (D.inputs desk.old) (λ all. IsSomeAnd all.standard (λ bytes. given ≡ Some bytes))
+        × IsUnread (D.inputs desk.old) given
         × IsServed default_budget r.number r.status result.journal.items given (D.In.left r.source) (D.Out.held r.sink)
-        (Rose 0 (D.In.faults r.source)) (Rose 0 (D.Out.faults r.sink)))) result.clients.items }
+        0 (D.In.faults r.source) 0 (D.Out.faults r.sink))) result.clients.items }
 
     // Over a desk and streams that don't fail, the input is read to its end, or a limit or want of
     // memory comes.
     ensures healthy { words.now ≡ [] → (Rose (D.input_faults desk.old) (D.input_faults desk.new) → ⊥)
         → All (λ r. (Rose 0 (D.In.faults r.source) → ⊥) × (Rose 0 (D.Out.faults r.sink) → ⊥)) result.clients.items
-        → (result.status ≡ 0) ⊎ (result.status ≡ 6) ⊎ (result.status ≡ 5) }
+        → (result.status ≡ all_served) ⊎ (result.status ≡ limit_met) ⊎ (result.status ≡ memory_short) }
+
+    // Each sink is the stream that it is to be.
+    ensures standard { All (λ r. IsStreamWhereTold (D.Out.stream r.sink) StandardStream) result.clients.items }
 
     // Without a client, the streams could not be opened, or memory was wanting.
     ensures alone { (result.clients.items ≡ []) →
-        (Rose (D.input_faults desk.old) (D.input_faults desk.new)
-        × (words.now ≡ [] → result.status ≡ 3) × (words.now ≢ [] → result.status ≡ 2))
-        ⊎ (result.status ≡ 5) }
+        (Rose (D.input_faults desk.old) (D.input_faults desk.new) × (result.journal.items ≡ [])
+        × (words.now ≡ [] → result.status ≡ read_failed) × (words.now ≢ [] → result.status ≡ words_refused))
+        ⊎ (result.status ≡ memory_short) }
 
-    // Refused words: the usage line is written, and nothing is journalled.
+    // The journal is empty where the words are refused or an opening failed, and else only for want of
+    // memory before the engine was open.
+    ensures empty { (result.journal.items ≡ []) → (words.now ≢ []) ⊎ ((result.clients.items ≡ [])
+        × ((result.status ≡ read_failed) ⊎ (result.status ≡ memory_short))) }
+    ensures unopened { (result.clients.items ≡ []) → (result.status ≡ read_failed) → result.journal.items ≡ [] }
+
+    // Refused words: the usage line is written, and nothing is read or journalled.
     ensures refused { words.now ≢ [] → result.journal.items ≡ [] }
-    ensures refused_status { words.now ≢ [] → (result.status ≡ 2) ⊎ (result.status ≡ 5) }
-    ensures accepted_status { words.now ≡ [] → result.status ≢ 2 }
-    ensures usage { words.now ≢ [] → All (λ r. (r.number ≡ 0) × (r.status ≡ 2) × (result.status ≡ 2)
+    ensures refused_status { words.now ≢ [] → (result.status ≡ words_refused) ⊎ (result.status ≡ memory_short) }
+    ensures accepted_status { words.now ≡ [] → result.status ≢ words_refused }
+    ensures unread { words.now ≢ [] → All (λ r. IsUnread (D.inputs desk.old) (D.In.left r.source)
+        × (D.In.faults r.source ≡ 0)) result.clients.items }
+    ensures usage { words.now ≢ [] → All (λ r. (r.number ≡ 0) × (r.status ≡ words_refused) × (result.status ≡ words_refused)
         × IsUsage (D.Out.held r.sink) USAGE.now (Rose 0 (D.Out.faults r.sink))) result.clients.items }
 
     // No file is opened for the journal so far.
@@ -212,7 +238,7 @@ pub fn run<R: Threads + Wait + Sync, D: Desk, G: Gate>(
 {
     let clients = match Vec::with_capacity(alloc, 1) {
         Ok(clients) => clients,
-        Err(_refused) => return report_without(5, Vec::new(alloc), Vec::new(alloc)),
+        Err(_refused) => return report_without(MEMORY_SHORT, Vec::new(alloc), Vec::new(alloc)),
     };
     if words.is_empty() {
         serve_desk(alloc, desk, clients)

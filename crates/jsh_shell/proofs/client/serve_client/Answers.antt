@@ -1,6 +1,5 @@
 -- From the engine's opening to its close.
 use Rattle.std.proofs.Common.{◌≡◌, ℕ, ◌++◌, ◌∷◌, [], List, length, arith, sym, ◌∙◌, ap, subst, refl, inl, inr}
-use Rattle.jsh_io.specs.Count.{Rose}
 use Rattle.jsh_snippet.specs.declared.acts.Entry.{Entry}
 use Rattle.jsh_snippet.specs.declared.acts.Act.TheVariants as act
 use Rattle.jsh_core.specs.History.{IsLegal}
@@ -8,7 +7,7 @@ use Rattle.jsh_shell.specs.declared.reports.ClientReport.{ClientReport}
 use Rattle.jsh_shell.specs.Budget.{default_budget}
 use Rattle.jsh_shell.specs.Journal.{entry_of, IsFramed, IsServed}
 use Rattle.jsh_shell.specs.Serving.{IsServedBy}
-use Rattle.jsh_shell.proofs.RunLemmas.{allows-enter, allows-close-empty, allows-close, open-first, two-more, is-served, began, framed-one, framed-none, sole}
+use Rattle.jsh_shell.proofs.RunLemmas.{allows-enter, allows-close-empty, allows-close, open-first, two-more, is-served, began, framed-one, framed-none, not-empty, sole}
 use Rattle.jsh_shell.proofs.client.serve_client.Goals as goal
 
 pub returns-in-Err-clause-legal : goal.returns-in-Err-clause-legal
@@ -84,18 +83,18 @@ pub returns-clause-served : goal.returns-clause-served
 returns-clause-served g c =
     let journal : c.report_without-2.result.journal.items ≡ c.serve_pieces-status.new.core ++ entry_of 1 act.Leave ∷ entry_of 0 act.Close ∷ []
     = c.report_without-2.ensures.journal ∙ c.into_history-2.ensures.items ∙ two-more _ _ _ _ _ c.leave.ensures c.close-2.ensures in
-    let by : IsServedBy 1 c.serve_pieces-status.result (entry_of 0 act.Enter ∷ []) c.serve_pieces-status.new.core (g.I.Source.left c.args.source) (g.I.Source.left c.serve_pieces-status.new.source) (g.O.Sink.held c.args.sink) (g.O.Sink.held c.serve_pieces-status.new.sink)
-    (Rose (g.I.Source.faults c.args.source) (g.I.Source.faults c.serve_pieces-status.new.source)) (Rose (g.O.Sink.faults c.args.sink) (g.O.Sink.faults c.serve_pieces-status.new.sink))
-    = subst (λ (h : List Entry). IsServedBy 1 c.serve_pieces-status.result h c.serve_pieces-status.new.core (g.I.Source.left c.args.source) (g.I.Source.left c.serve_pieces-status.new.source) (g.O.Sink.held c.args.sink) (g.O.Sink.held c.serve_pieces-status.new.sink)
-    (Rose (g.I.Source.faults c.args.source) (g.I.Source.faults c.serve_pieces-status.new.source)) (Rose (g.O.Sink.faults c.args.sink) (g.O.Sink.faults c.serve_pieces-status.new.sink)))
+    let by : IsServedBy default_budget 1 c.serve_pieces-status.result (entry_of 0 act.Enter ∷ []) c.serve_pieces-status.new.core (g.I.Source.left c.args.source) (g.I.Source.left c.serve_pieces-status.new.source) (g.O.Sink.held c.args.sink) (g.O.Sink.held c.serve_pieces-status.new.sink)
+    (g.I.Source.faults c.args.source) (g.I.Source.faults c.serve_pieces-status.new.source) (g.O.Sink.faults c.args.sink) (g.O.Sink.faults c.serve_pieces-status.new.sink)
+    = subst (λ (h : List Entry). IsServedBy default_budget 1 c.serve_pieces-status.result h c.serve_pieces-status.new.core (g.I.Source.left c.args.source) (g.I.Source.left c.serve_pieces-status.new.source) (g.O.Sink.held c.args.sink) (g.O.Sink.held c.serve_pieces-status.new.sink)
+    (g.I.Source.faults c.args.source) (g.I.Source.faults c.serve_pieces-status.new.source) (g.O.Sink.faults c.args.sink) (g.O.Sink.faults c.serve_pieces-status.new.sink))
     c.in-Ok-enter_first.ensures.ok c.serve_pieces-status.ensures.served in
     sole (λ (r : ClientReport g.row.I.Denot g.row.O.Denot). (r.number ≡ 1) × (r.status ≡ c.report_without-2.result.status)
     × IsServed default_budget r.number r.status c.report_without-2.result.journal.items (g.I.Source.left c.args.source) (g.I.Source.left r.source) (g.O.Sink.held r.sink)
-    (Rose (g.I.Source.faults c.args.source) (g.I.Source.faults r.source)) (Rose (g.O.Sink.faults c.args.sink) (g.O.Sink.faults r.sink)))
+    (g.I.Source.faults c.args.source) (g.I.Source.faults r.source) (g.O.Sink.faults c.args.sink) (g.O.Sink.faults r.sink))
     c.report_without-2.result.clients.items
     (record { number = 1; status = c.serve_pieces-status.result; source = c.serve_pieces-status.new.source; sink = c.serve_pieces-status.new.sink })
     (c.report_without-2.ensures.clients ∙ c.push_report.ensures ∙ ap (λ xs. xs ++ record { number = 1; status = c.serve_pieces-status.result; source = c.serve_pieces-status.new.source; sink = c.serve_pieces-status.new.sink } ∷ []) c.requires.none)
-    (refl, sym c.report_without-2.ensures.status, is-served _ _ c.serve_pieces-status.result c.serve_pieces-status.new.core c.report_without-2.result.journal.items _ _ _ _ journal c.requires.empty by)
+    (refl, sym c.report_without-2.ensures.status, is-served _ _ _ _ c.serve_pieces-status.result c.serve_pieces-status.new.core c.report_without-2.result.journal.items _ _ _ _ journal c.requires.empty by)
 
 pub returns-clause-alone : goal.returns-clause-alone
 returns-clause-alone g c = λ e.
@@ -112,13 +111,13 @@ pub returns-clause-framed : goal.returns-clause-framed
 returns-clause-framed g c =
     let journal : c.report_without-2.result.journal.items ≡ c.serve_pieces-status.new.core ++ entry_of 1 act.Leave ∷ entry_of 0 act.Close ∷ []
     = c.report_without-2.ensures.journal ∙ c.into_history-2.ensures.items ∙ two-more _ _ _ _ _ c.leave.ensures c.close-2.ensures in
-    let by : IsServedBy 1 c.serve_pieces-status.result (entry_of 0 act.Enter ∷ []) c.serve_pieces-status.new.core (g.I.Source.left c.args.source) (g.I.Source.left c.serve_pieces-status.new.source) (g.O.Sink.held c.args.sink) (g.O.Sink.held c.serve_pieces-status.new.sink)
-    (Rose (g.I.Source.faults c.args.source) (g.I.Source.faults c.serve_pieces-status.new.source)) (Rose (g.O.Sink.faults c.args.sink) (g.O.Sink.faults c.serve_pieces-status.new.sink))
-    = subst (λ (h : List Entry). IsServedBy 1 c.serve_pieces-status.result h c.serve_pieces-status.new.core (g.I.Source.left c.args.source) (g.I.Source.left c.serve_pieces-status.new.source) (g.O.Sink.held c.args.sink) (g.O.Sink.held c.serve_pieces-status.new.sink)
-    (Rose (g.I.Source.faults c.args.source) (g.I.Source.faults c.serve_pieces-status.new.source)) (Rose (g.O.Sink.faults c.args.sink) (g.O.Sink.faults c.serve_pieces-status.new.sink)))
+    let by : IsServedBy default_budget 1 c.serve_pieces-status.result (entry_of 0 act.Enter ∷ []) c.serve_pieces-status.new.core (g.I.Source.left c.args.source) (g.I.Source.left c.serve_pieces-status.new.source) (g.O.Sink.held c.args.sink) (g.O.Sink.held c.serve_pieces-status.new.sink)
+    (g.I.Source.faults c.args.source) (g.I.Source.faults c.serve_pieces-status.new.source) (g.O.Sink.faults c.args.sink) (g.O.Sink.faults c.serve_pieces-status.new.sink)
+    = subst (λ (h : List Entry). IsServedBy default_budget 1 c.serve_pieces-status.result h c.serve_pieces-status.new.core (g.I.Source.left c.args.source) (g.I.Source.left c.serve_pieces-status.new.source) (g.O.Sink.held c.args.sink) (g.O.Sink.held c.serve_pieces-status.new.sink)
+    (g.I.Source.faults c.args.source) (g.I.Source.faults c.serve_pieces-status.new.source) (g.O.Sink.faults c.args.sink) (g.O.Sink.faults c.serve_pieces-status.new.sink))
     c.in-Ok-enter_first.ensures.ok c.serve_pieces-status.ensures.served in
     let one : length c.report_without-2.result.clients.items ≡ 1 = ap length (c.report_without-2.ensures.clients ∙ c.push_report.ensures ∙ ap (λ xs. xs ++ record { number = 1; status = c.serve_pieces-status.result; source = c.serve_pieces-status.new.source; sink = c.serve_pieces-status.new.sink } ∷ []) c.requires.none) in
-    inr (subst (λ (n : ℕ). IsFramed n c.report_without-2.result.journal.items) (sym one) (framed-one c.serve_pieces-status.new.core _ journal (began _ _ _ _ _ _ _ _ by)))
+    inr (subst (λ (n : ℕ). IsFramed n c.report_without-2.result.journal.items) (sym one) (framed-one c.serve_pieces-status.new.core _ journal (began _ _ _ _ _ _ _ _ _ _ by)))
 
 pub returns-in-Err-clause-no_file : goal.returns-in-Err-clause-no_file
 returns-in-Err-clause-no_file g c = c.report_without.ensures.no_file
@@ -128,3 +127,33 @@ returns-in-Err-enter_first-clause-no_file g c = c.report_without-in-Err-enter_fi
 
 pub returns-clause-no_file : goal.returns-clause-no_file
 returns-clause-no_file g c = c.report_without-2.ensures.no_file
+
+pub returns-in-Err-clause-stream : goal.returns-in-Err-clause-stream
+returns-in-Err-clause-stream g c = λ k d h.
+    let none : length c.report_without.result.clients.items ≡ 0 = ap length (c.report_without.ensures.clients ∙ c.requires.none) in
+    absurd (omega (arith, h, none))
+
+pub returns-in-Err-clause-empty : goal.returns-in-Err-clause-empty
+returns-in-Err-clause-empty g c = λ e. c.report_without.ensures.clients ∙ c.requires.none
+
+pub returns-in-Err-enter_first-clause-stream : goal.returns-in-Err-enter_first-clause-stream
+returns-in-Err-enter_first-clause-stream g c = λ k d h.
+    let none : length c.report_without-in-Err-enter_first.result.clients.items ≡ 0 = ap length (c.report_without-in-Err-enter_first.ensures.clients ∙ c.requires.none) in
+    absurd (omega (arith, h, none))
+
+pub returns-in-Err-enter_first-clause-empty : goal.returns-in-Err-enter_first-clause-empty
+returns-in-Err-enter_first-clause-empty g c = λ e. c.report_without-in-Err-enter_first.ensures.clients ∙ c.requires.none
+
+pub returns-clause-stream : goal.returns-clause-stream
+returns-clause-stream g c =
+    sole (λ (r : ClientReport g.row.I.Denot g.row.O.Denot). g.O.Sink.stream r.sink ≡ g.O.Sink.stream c.args.sink)
+    c.report_without-2.result.clients.items
+    (record { number = 1; status = c.serve_pieces-status.result; source = c.serve_pieces-status.new.source; sink = c.serve_pieces-status.new.sink })
+    (c.report_without-2.ensures.clients ∙ c.push_report.ensures ∙ ap (λ xs. xs ++ record { number = 1; status = c.serve_pieces-status.result; source = c.serve_pieces-status.new.source; sink = c.serve_pieces-status.new.sink } ∷ []) c.requires.none)
+    c.serve_pieces-status.ensures.stream
+
+pub returns-clause-empty : goal.returns-clause-empty
+returns-clause-empty g c = λ e.
+    let journal : c.report_without-2.result.journal.items ≡ c.serve_pieces-status.new.core ++ entry_of 1 act.Leave ∷ entry_of 0 act.Close ∷ []
+    = c.report_without-2.ensures.journal ∙ c.into_history-2.ensures.items ∙ two-more _ _ _ _ _ c.leave.ensures c.close-2.ensures in
+    absurd (not-empty c.serve_pieces-status.new.core _ (sym journal ∙ e))

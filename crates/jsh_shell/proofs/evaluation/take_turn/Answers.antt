@@ -1,26 +1,27 @@
 -- A fresh run does its two steps in one turn.
 use Rattle.std.proofs.Common.{◌≤◌, ◌<◌, arith, length}
+use Rattle.jsh_core.specs.Limits.{most_entries}
 use Rattle.jsh_core.specs.History.{state_of}
 use Rattle.jsh_shell.proofs.ActLemmas.{fresh-there, fresh-main, turns-by, turns-part-by, turns-full, open-turn-kept, open-turn-part}
 use Rattle.jsh_shell.proofs.evaluation.take_turn.Goals as goal
 
-pub returns-then-len-ge-MAX_HISTORY-clause-err : goal.returns-then-len-ge-MAX_HISTORY-clause-err
-returns-then-len-ge-MAX_HISTORY-clause-err g c =
-    let full : 4194304 ≤ length c.args.core.now = omega (arith, c.len.ensures.entries, c.if-len-ge-MAX_HISTORY.true) in
+pub returns-then-len-ge-MOST_ENTRIES-clause-err : goal.returns-then-len-ge-MOST_ENTRIES-clause-err
+returns-then-len-ge-MOST_ENTRIES-clause-err g c =
+    let full : most_entries ≤ length c.args.core.now = omega (arith, c.len.ensures.entries, c.if-len-ge-MOST_ENTRIES.true) in
     turns-full _ _ _ full
 
-pub returns-then-len-ge-MAX_HISTORY-clause-open : goal.returns-then-len-ge-MAX_HISTORY-clause-open
-returns-then-len-ge-MAX_HISTORY-clause-open g c = c.requires.open
+pub returns-then-len-ge-MOST_ENTRIES-clause-open : goal.returns-then-len-ge-MOST_ENTRIES-clause-open
+returns-then-len-ge-MOST_ENTRIES-clause-open g c = c.requires.open
 
-pub returns-then-len-ge-MAX_HISTORY-clause-sink : goal.returns-then-len-ge-MAX_HISTORY-clause-sink
-returns-then-len-ge-MAX_HISTORY-clause-sink g c = λ e. cc
+pub returns-then-len-ge-MOST_ENTRIES-clause-sink : goal.returns-then-len-ge-MOST_ENTRIES-clause-sink
+returns-then-len-ge-MOST_ENTRIES-clause-sink g c = λ e. cc
 
 pub main_of-thread-requires : goal.main_of-thread-requires
 main_of-thread-requires g c = fresh-there (state_of c.args.core.now) c.args.client c.args.run c.requires.fresh
 
 pub apply-requires : goal.apply-requires
 apply-requires g c =
-    let some : length c.args.core.now < 4194304 = omega (arith, c.len.ensures.entries, c.if-len-ge-MAX_HISTORY.false) in
+    let some : length c.args.core.now < most_entries = omega (arith, c.len.ensures.entries, c.if-len-ge-MOST_ENTRIES.false) in
     record { present = c.requires.open.present; «open» = c.requires.open.«open»; may = (some, omega arith, omega arith) }
 
 pub returns-in-Err-clause-err : goal.returns-in-Err-clause-err

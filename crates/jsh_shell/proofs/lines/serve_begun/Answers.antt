@@ -1,8 +1,9 @@
 -- The line is what was begun and its end.
-use Rattle.std.proofs.Common.{◌≡◌, ◌≤◌, ◌+◌, ◌*◌, ◌++◌, arith, ap, sym, ◌∙◌, subst, List, ℕ, length, length-append}
+use Rattle.std.proofs.Common.{refl, ◌≡◌, ◌≤◌, ◌+◌, ◌*◌, ◌++◌, arith, ap, sym, ◌∙◌, subst, List, ℕ, length, length-append}
 use Rattle.jsh_lines.specs.Lines.{as_text}
 use Rattle.jsh_cut.specs.Commands.{cut_line, held_text}
 use Rattle.jsh_shell.specs.Cutting.{ServesCut}
+use Rattle.jsh_shell.specs.Budget.{default_budget}
 use Rattle.jsh_shell.specs.Serving.{ServesPart}
 use Rattle.jsh_shell.proofs.ServeLemmas.{part-for-memory}
 use Rattle.jsh_shell.proofs.lines.serve_begun.Goals as goal
@@ -13,8 +14,11 @@ returns-in-Err-clause-err g c = part-for-memory _ _ _ _
 pub returns-in-Err-clause-open : goal.returns-in-Err-clause-open
 returns-in-Err-clause-open g c = c.requires.open
 
-pub returns-in-Err-clause-never_falls : goal.returns-in-Err-clause-never_falls
-returns-in-Err-clause-never_falls g c = omega arith
+pub returns-in-Err-clause-counts : goal.returns-in-Err-clause-counts
+returns-in-Err-clause-counts g c = refl
+
+pub returns-in-Err-clause-stream : goal.returns-in-Err-clause-stream
+returns-in-Err-clause-stream g c = refl
 
 pub serve_line-requires-clause-open : goal.serve_line-requires-clause-open
 serve_line-requires-clause-open g c = c.requires.open
@@ -25,21 +29,21 @@ serve_line-requires-clause-few g c =
 
 pub returns-in-Err-serve_line-clause-err : goal.returns-in-Err-serve_line-clause-err
 returns-in-Err-serve_line-clause-err g c =
-    subst (λ (line : List ℕ). ServesPart c.in-Err-serve_line.why c.args.client c.args.core.now c.serve_line.new.core (g.O.Sink.held c.args.sink.now) (g.O.Sink.held c.serve_line.new.sink) (cut_line c.args.held (as_text line)).commands)
+    subst (λ (line : List ℕ). ServesPart c.in-Err-serve_line.why default_budget c.args.client c.args.core.now c.serve_line.new.core (g.O.Sink.held c.args.sink.now) (g.O.Sink.held c.serve_line.new.sink) (cut_line c.args.held (as_text line)).commands)
     (c.as_slice.ensures.value ∙ c.in-Ok.ensures.items) c.in-Err-serve_line.ensures.err
 
 pub returns-in-Err-serve_line-clause-open : goal.returns-in-Err-serve_line-clause-open
 returns-in-Err-serve_line-clause-open g c = c.in-Err-serve_line.ensures.open
 
-pub returns-in-Err-serve_line-clause-cause : goal.returns-in-Err-serve_line-clause-cause
-returns-in-Err-serve_line-clause-cause g c = c.in-Err-serve_line.ensures.cause
+pub returns-in-Err-serve_line-clause-counts : goal.returns-in-Err-serve_line-clause-counts
+returns-in-Err-serve_line-clause-counts g c = c.in-Err-serve_line.ensures.counts
 
-pub returns-in-Err-serve_line-clause-never_falls : goal.returns-in-Err-serve_line-clause-never_falls
-returns-in-Err-serve_line-clause-never_falls g c = c.in-Err-serve_line.ensures.never_falls
+pub returns-in-Err-serve_line-clause-stream : goal.returns-in-Err-serve_line-clause-stream
+returns-in-Err-serve_line-clause-stream g c = c.in-Err-serve_line.ensures.stream
 
 pub returns-clause-ok : goal.returns-clause-ok
 returns-clause-ok g c =
-    subst (λ (line : List ℕ). ServesCut c.args.client c.args.core.now c.serve_line.new.core (g.O.Sink.held c.args.sink.now) (g.O.Sink.held c.serve_line.new.sink) (cut_line c.args.held (as_text line)) c.in-Ok-serve_line.behind)
+    subst (λ (line : List ℕ). ServesCut default_budget c.args.client c.args.core.now c.serve_line.new.core (g.O.Sink.held c.args.sink.now) (g.O.Sink.held c.serve_line.new.sink) (cut_line c.args.held (as_text line)) c.in-Ok-serve_line.behind)
     (c.as_slice.ensures.value ∙ c.in-Ok.ensures.items) c.in-Ok-serve_line.ensures.ok
 
 pub returns-clause-begun : goal.returns-clause-begun
@@ -52,5 +56,8 @@ returns-clause-few g c =
 pub returns-clause-open : goal.returns-clause-open
 returns-clause-open g c = c.in-Ok-serve_line.ensures.open
 
-pub returns-clause-never_falls : goal.returns-clause-never_falls
-returns-clause-never_falls g c = c.in-Ok-serve_line.ensures.never_falls
+pub returns-clause-counts : goal.returns-clause-counts
+returns-clause-counts g c = c.in-Ok-serve_line.ensures.counts
+
+pub returns-clause-stream : goal.returns-clause-stream
+returns-clause-stream g c = c.in-Ok-serve_line.ensures.stream

@@ -1,15 +1,16 @@
 -- Line by line, and then the rest begins the next one.
-use Rattle.std.proofs.Common.{rules, ◌≡◌, ◌≤◌, ◌<◌, ◌+◌, ◌*◌, ◌++◌, ◌∷◌, [], true, false, arith, sym, ◌∙◌, ap, subst, List, ℕ, length, drop, take, length-append, length-take, length-drop}
+use Rattle.std.proofs.Common.{refl, rules, ◌≡◌, ◌≤◌, ◌<◌, ◌+◌, ◌*◌, ◌++◌, ◌∷◌, [], true, false, arith, sym, ◌∙◌, ap, subst, List, ℕ, length, drop, take, length-append, length-take, length-drop}
 use Rattle.jsh_lines.specs.Lines.{as_text, has_line_feed, cut}
 use Rattle.jsh_cut.specs.Commands.{cut_line, held_text}
 use Rattle.jsh_shell.specs.Cutting.{ServesCut}
+use Rattle.jsh_shell.specs.Budget.{default_budget}
 use Rattle.jsh_shell.specs.Serving.{ServesPart}
-use Rattle.jsh_shell.proofs.ServeLemmas.{cause-earlier}
+use Rattle.jsh_shell.proofs.ServeLemmas.{cause-later}
 use Rattle.jsh_shell.proofs.PieceLemmas.{IsAlong, along-start, along-line, along-exit, along-part, along-memory, along-end, along-rest, behind-feed}
 use Rattle.jsh_shell.proofs.serving.serve_piece.Goals as goal
 
 pub lines-init : goal.lines-init
-lines-init g c = record { «open» = c.requires.open; uncut = c.requires.uncut; few = omega arith; along = along-start _ _ _ _ _; falls = omega arith }
+lines-init g c = record { «open» = c.requires.open; uncut = c.requires.uncut; few = omega arith; along = along-start _ _ _ _ _; unwritten = refl; stream = refl }
 
 pub split_at-requires : goal.split_at-requires
 split_at-requires g c = let h : c.in-Some.at < length c.lines.rest.now = c.in-Some.ensures.0 in omega (arith, h)
@@ -25,21 +26,21 @@ serve_begun-requires-clause-few g c =
 
 pub returns-in-Err-clause-err : goal.returns-in-Err-clause-err
 returns-in-Err-clause-err g c = along-part c.in-Err.why _ _ _ _ _ _ _ _ c.lines.waiting _ c.lines.begun.items c.lines.rest.now c.in-Some.at c.lines.invariant.along c.lines.invariant.uncut c.in-Some.ensures
-    (subst (λ (line : List ℕ). ServesPart c.in-Err.why c.args.client c.lines.core c.serve_begun.new.core (g.O.Sink.held c.lines.sink) (g.O.Sink.held c.serve_begun.new.sink) (cut_line c.lines.waiting (as_text (c.lines.begun.items ++ line))).commands) c.split_at.ensures.front c.in-Err.ensures.err)
+    (subst (λ (line : List ℕ). ServesPart c.in-Err.why default_budget c.args.client c.lines.core c.serve_begun.new.core (g.O.Sink.held c.lines.sink) (g.O.Sink.held c.serve_begun.new.sink) (cut_line c.lines.waiting (as_text (c.lines.begun.items ++ line))).commands) c.split_at.ensures.front c.in-Err.ensures.err)
 
 pub returns-in-Err-clause-open : goal.returns-in-Err-clause-open
 returns-in-Err-clause-open g c = c.in-Err.ensures.open
 
-pub returns-in-Err-clause-cause : goal.returns-in-Err-clause-cause
-returns-in-Err-clause-cause g c = cause-earlier c.in-Err.why _ _ _ c.lines.invariant.falls c.in-Err.ensures.never_falls c.in-Err.ensures.cause
+pub returns-in-Err-clause-counts : goal.returns-in-Err-clause-counts
+returns-in-Err-clause-counts g c = cause-later c.in-Err.why _ _ _ c.lines.invariant.unwritten c.in-Err.ensures.counts
 
-pub returns-in-Err-clause-never_falls : goal.returns-in-Err-clause-never_falls
-returns-in-Err-clause-never_falls g c = omega (arith, c.lines.invariant.falls, c.in-Err.ensures.never_falls)
+pub returns-in-Err-clause-stream : goal.returns-in-Err-clause-stream
+returns-in-Err-clause-stream g c = c.in-Err.ensures.stream ∙ c.lines.invariant.stream
 
 pub returns-then-behind-clause-ok : goal.returns-then-behind-clause-ok
 returns-then-behind-clause-ok g c =
     along-exit _ _ _ _ _ _ _ _ c.lines.waiting c.in-Ok.behind _ c.lines.begun.items c.lines.rest.now c.in-Some.at c.lines.invariant.along c.lines.invariant.uncut c.in-Some.ensures
-    (subst (λ (line : List ℕ). ServesCut c.args.client c.lines.core c.serve_begun.new.core (g.O.Sink.held c.lines.sink) (g.O.Sink.held c.serve_begun.new.sink) (cut_line c.lines.waiting (as_text (c.lines.begun.items ++ line))) c.in-Ok.behind) c.split_at.ensures.front c.in-Ok.ensures.ok)
+    (subst (λ (line : List ℕ). ServesCut default_budget c.args.client c.lines.core c.serve_begun.new.core (g.O.Sink.held c.lines.sink) (g.O.Sink.held c.serve_begun.new.sink) (cut_line c.lines.waiting (as_text (c.lines.begun.items ++ line))) c.in-Ok.behind) c.split_at.ensures.front c.in-Ok.ensures.ok)
     c.if-behind.true
 
 pub returns-then-behind-clause-begun : goal.returns-then-behind-clause-begun
@@ -51,8 +52,11 @@ returns-then-behind-clause-few g c = λ on. let no : true ≡ false = sym c.if-b
 pub returns-then-behind-clause-open : goal.returns-then-behind-clause-open
 returns-then-behind-clause-open g c = c.in-Ok.ensures.open
 
-pub returns-then-behind-clause-never_falls : goal.returns-then-behind-clause-never_falls
-returns-then-behind-clause-never_falls g c = omega (arith, c.lines.invariant.falls, c.in-Ok.ensures.never_falls)
+pub returns-then-behind-clause-counts : goal.returns-then-behind-clause-counts
+returns-then-behind-clause-counts g c = c.in-Ok.ensures.counts ∙ c.lines.invariant.unwritten
+
+pub returns-then-behind-clause-stream : goal.returns-then-behind-clause-stream
+returns-then-behind-clause-stream g c = c.in-Ok.ensures.stream ∙ c.lines.invariant.stream
 
 pub split_at-requires-in-Some : goal.split_at-requires-in-Some
 split_at-requires-in-Some g c =
@@ -76,9 +80,10 @@ lines-preserved g c =
       along = subst (λ (left : List ℕ). IsAlong c.args.client c.args.core.now c.serve_begun.new.core (g.O.Sink.held c.args.sink.now) (g.O.Sink.held c.serve_begun.new.sink) c.args.held c.in-Ok.behind.held (c.args.begun.now.items ++ c.args.piece.now) left)
           (sym (ap (λ (h : List ℕ). h ++ c.split_at-in-Some.result.1.now) c.in-Ok.ensures.begun ∙ next))
           (along-line _ _ _ _ _ _ _ _ c.lines.waiting c.in-Ok.behind _ c.lines.begun.items c.lines.rest.now c.in-Some.at c.lines.invariant.along c.lines.invariant.uncut c.in-Some.ensures
-          (subst (λ (line : List ℕ). ServesCut c.args.client c.lines.core c.serve_begun.new.core (g.O.Sink.held c.lines.sink) (g.O.Sink.held c.serve_begun.new.sink) (cut_line c.lines.waiting (as_text (c.lines.begun.items ++ line))) c.in-Ok.behind) c.split_at.ensures.front c.in-Ok.ensures.ok)
+          (subst (λ (line : List ℕ). ServesCut default_budget c.args.client c.lines.core c.serve_begun.new.core (g.O.Sink.held c.lines.sink) (g.O.Sink.held c.serve_begun.new.sink) (cut_line c.lines.waiting (as_text (c.lines.begun.items ++ line))) c.in-Ok.behind) c.split_at.ensures.front c.in-Ok.ensures.ok)
           c.if-behind.false);
-      falls = omega (arith, c.lines.invariant.falls, c.in-Ok.ensures.never_falls);
+      unwritten = c.in-Ok.ensures.counts ∙ c.lines.invariant.unwritten;
+      stream = c.in-Ok.ensures.stream ∙ c.lines.invariant.stream;
     }
 
 pub returns-in-Ok-extend_from_slice-clause-ok : goal.returns-in-Ok-extend_from_slice-clause-ok
@@ -98,8 +103,11 @@ returns-in-Ok-extend_from_slice-clause-few g c = λ on.
 pub returns-in-Ok-extend_from_slice-clause-open : goal.returns-in-Ok-extend_from_slice-clause-open
 returns-in-Ok-extend_from_slice-clause-open g c = c.lines.invariant.open
 
-pub returns-in-Ok-extend_from_slice-clause-never_falls : goal.returns-in-Ok-extend_from_slice-clause-never_falls
-returns-in-Ok-extend_from_slice-clause-never_falls g c = c.lines.invariant.falls
+pub returns-in-Ok-extend_from_slice-clause-counts : goal.returns-in-Ok-extend_from_slice-clause-counts
+returns-in-Ok-extend_from_slice-clause-counts g c = c.lines.invariant.unwritten
+
+pub returns-in-Ok-extend_from_slice-clause-stream : goal.returns-in-Ok-extend_from_slice-clause-stream
+returns-in-Ok-extend_from_slice-clause-stream g c = c.lines.invariant.stream
 
 pub returns-in-Err-extend_from_slice-clause-err : goal.returns-in-Err-extend_from_slice-clause-err
 returns-in-Err-extend_from_slice-clause-err g c = along-memory _ _ _ _ _ _ c.lines.waiting _ (c.lines.begun.items ++ c.lines.rest.now) c.lines.invariant.along
@@ -107,5 +115,8 @@ returns-in-Err-extend_from_slice-clause-err g c = along-memory _ _ _ _ _ _ c.lin
 pub returns-in-Err-extend_from_slice-clause-open : goal.returns-in-Err-extend_from_slice-clause-open
 returns-in-Err-extend_from_slice-clause-open g c = c.lines.invariant.open
 
-pub returns-in-Err-extend_from_slice-clause-never_falls : goal.returns-in-Err-extend_from_slice-clause-never_falls
-returns-in-Err-extend_from_slice-clause-never_falls g c = c.lines.invariant.falls
+pub returns-in-Err-extend_from_slice-clause-counts : goal.returns-in-Err-extend_from_slice-clause-counts
+returns-in-Err-extend_from_slice-clause-counts g c = c.lines.invariant.unwritten
+
+pub returns-in-Err-extend_from_slice-clause-stream : goal.returns-in-Err-extend_from_slice-clause-stream
+returns-in-Err-extend_from_slice-clause-stream g c = c.lines.invariant.stream

@@ -1,5 +1,5 @@
 -- So much was read, its whole lines were served, its rest begins a line, and what waits is held.
-use Rattle.std.proofs.Common.{◌≤◌, ◌-◌, ◌+◌, ◌*◌, length}
+use Rattle.std.proofs.Common.{◌≡◌, ◌≤◌, ◌-◌, ◌+◌, ◌*◌, length}
 use Rattle.jsh_cut.specs.Commands.{held_text}
 use Rattle.jsh_shell.specs.Budget.{most_input}
 use Rattle.jsh_shell.specs.Serving.{IsOpen}
@@ -12,8 +12,9 @@ invariant-pieces g l = record {
   few : l.total ≤ most_input;
   short : length (held_text l.held) + 3 * length l.begun.items ≤ 3 * l.total;
   reading : IsReading l.client l.initial.core l.core (g.I.Source.left l.initial.source) (g.I.Source.left l.source) (g.O.Sink.held l.initial.sink) (g.O.Sink.held l.sink) l.held l.begun.items l.total;
-  source_counts : g.I.Source.faults l.initial.source ≤ g.I.Source.faults l.source;
-  sink_counts : g.O.Sink.faults l.initial.sink ≤ g.O.Sink.faults l.sink;
+  unread : g.I.Source.faults l.source ≡ g.I.Source.faults l.initial.source;
+  unwritten : g.O.Sink.faults l.sink ≡ g.O.Sink.faults l.initial.sink;
+  stream : g.O.Sink.stream l.sink ≡ g.O.Sink.stream l.initial.sink;
 }
 
 abbrev pub decreases-pieces : goal.decreases-pieces

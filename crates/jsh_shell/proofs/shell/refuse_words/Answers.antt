@@ -1,5 +1,8 @@
 -- The streams come without faults, and the sink holds nothing.
-use Rattle.std.proofs.Common.{◌≡◌, length, arith, ap, ◌∙◌}
+use Rattle.std.proofs.Common.{◌≡◌, ℕ, List, Option, length, arith, ap, sym, subst, ◌∙◌}
+use Rattle.jsh_io.specs.Streams.{StreamName, IsStreamWhereTold}
+use Rattle.jsh_io.specs.Streams.StreamName.{StandardStream}
+use Rattle.jsh_shell.specs.Journal.{IsUnread}
 use Rattle.jsh_shell.proofs.RunLemmas.{usage-of}
 use Rattle.jsh_shell.proofs.shell.refuse_words.Goals as goal
 
@@ -55,3 +58,23 @@ returns-in-Err-clause-no_file g c = c.report_without.ensures.no_file
 
 pub returns-clause-no_file : goal.returns-clause-no_file
 returns-clause-no_file g c = c.refuse.ensures.no_file
+
+pub returns-in-Err-clause-unread : goal.returns-in-Err-clause-unread
+returns-in-Err-clause-unread g c = λ k d h.
+    let none : length c.report_without.result.clients.items ≡ 0 = ap length (c.report_without.ensures.clients ∙ c.requires.none) in
+    absurd (omega (arith, h, none))
+
+pub returns-in-Err-clause-standard : goal.returns-in-Err-clause-standard
+returns-in-Err-clause-standard g c = λ k d h.
+    let none : length c.report_without.result.clients.items ≡ 0 = ap length (c.report_without.ensures.clients ∙ c.requires.none) in
+    absurd (omega (arith, h, none))
+
+pub returns-clause-unread : goal.returns-clause-unread
+returns-clause-unread g c = λ k d h.
+    let s = c.refuse.ensures.unread k d h in
+    (subst (λ (left : Option (List ℕ)). IsUnread (g.D.Desk.inputs c.args.desk.now) left) (sym s.0) c.in-Ok.ensures.opened, s.1 ∙ c.in-Ok.ensures.fresh_in)
+
+pub returns-clause-standard : goal.returns-clause-standard
+returns-clause-standard g c = λ k d h.
+    let s = c.refuse.ensures.stream k d h in
+    subst (λ (told : Option StreamName). IsStreamWhereTold told StandardStream) (sym s) c.in-Ok.ensures.stream

@@ -1,5 +1,7 @@
 -- What the desk told is what the source had left at first, and its streams come without faults.
-use Rattle.std.proofs.Common.{◌≡◌, length, arith, ap, ◌∙◌, inl, inr, subst, sym, List}
+use Rattle.std.proofs.Common.{◌≡◌, length, arith, ap, ◌∙◌, inl, inr, subst, sym, List, Option}
+use Rattle.jsh_io.specs.Streams.{StreamName, IsStreamWhereTold}
+use Rattle.jsh_io.specs.Streams.StreamName.{StandardStream}
 use Rattle.jsh_io.specs.Count.{Rose}
 use Rattle.jsh_snippet.specs.declared.acts.Entry.{Entry}
 use Rattle.jsh_core.specs.History.{IsLegal}
@@ -18,7 +20,7 @@ returns-in-Err-clause-served g c = λ k d h.
     absurd (omega (arith, h, none))
 
 pub returns-in-Err-clause-alone : goal.returns-in-Err-clause-alone
-returns-in-Err-clause-alone g c = λ e. inl (c.report_without.ensures.status, c.in-Err.ensures.failed)
+returns-in-Err-clause-alone g c = λ e. inl (c.report_without.ensures.status, c.report_without.ensures.journal ∙ c.new.ensures.items, c.in-Err.ensures.failed)
 
 pub returns-in-Err-clause-healthy : goal.returns-in-Err-clause-healthy
 returns-in-Err-clause-healthy g c = λ well streams. absurd (well c.in-Err.ensures.failed)
@@ -73,3 +75,19 @@ returns-in-Err-clause-no_file g c = c.report_without.ensures.no_file
 
 pub returns-clause-no_file : goal.returns-clause-no_file
 returns-clause-no_file g c = c.serve_standard.ensures.no_file
+
+pub returns-in-Err-clause-standard : goal.returns-in-Err-clause-standard
+returns-in-Err-clause-standard g c = λ k d h.
+    let none : length c.report_without.result.clients.items ≡ 0 = ap length (c.report_without.ensures.clients ∙ c.requires.none) in
+    absurd (omega (arith, h, none))
+
+pub returns-in-Err-clause-empty : goal.returns-in-Err-clause-empty
+returns-in-Err-clause-empty g c = λ e. c.report_without.ensures.clients ∙ c.requires.none
+
+pub returns-clause-standard : goal.returns-clause-standard
+returns-clause-standard g c = λ k d h.
+    let s = c.serve_standard.ensures.stream k d h in
+    subst (λ (told : Option StreamName). IsStreamWhereTold told StandardStream) (sym s) c.in-Ok.ensures.stream
+
+pub returns-clause-empty : goal.returns-clause-empty
+returns-clause-empty g c = c.serve_standard.ensures.empty
