@@ -1,5 +1,5 @@
 -- What of a declaration other code depends on.
-use Rattle.std.specs.Prelude.{ℕ, Bool, true, false, List, [], ◌∷◌, Option, Some, None, option_map, map}
+use Rattle.std.specs.Prelude.{Bool, true, false, List, [], ◌∷◌, Option, Some, None, option_map, map}
 use Rattle.std.specs.List.{flat_map, list_any}
 use Rattle.std.specs.Option.{option_to_list}
 use Rattle.jsh_tree.specs.declared.tree.Tree.{Tree}
@@ -18,7 +18,6 @@ use Rattle.jsh_tree.specs.declared.declaration.InterfaceDeclaration.{InterfaceDe
 use Rattle.jsh_tree.specs.declared.declaration.MethodDeclaration.{MethodDeclaration}
 use Rattle.jsh_tree.specs.declared.declaration.MemberDeclaration.{MemberDeclaration}
 use Rattle.jsh_tree.specs.declared.declaration.MemberDeclaration.TheVariants as member
-use Rattle.jsh_tree.specs.declared.expression.Identifier.{Identifier}
 use Rattle.jsh_tree.specs.declared.expression.TypeUse.{TypeUse}
 use Rattle.jsh_tree.specs.declared.statement.Block.{Block}
 use Rattle.jsh_snippet.specs.Keys.{names_of, parameter_types}
