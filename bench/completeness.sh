@@ -3,10 +3,7 @@
 # the time grows with the length and no faster. The analysis is told apart from the lexis before it. It tests nothing.
 set -eu
 cd "$(dirname "$0")/.."
-program=crates/jsh_complete_bench/out/jsh_complete_bench
-if [ ! -x "$program" ]; then
-    (cd crates/jsh_complete_bench && rt run </dev/null >/dev/null)
-fi
+program=$(bench/built.sh jsh_complete_bench)
 exec python3 - "$program" <<'EOS'
 import subprocess, sys, time
 

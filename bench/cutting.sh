@@ -4,10 +4,7 @@
 # is held, and many snippets on one line. It tests nothing.
 set -eu
 cd "$(dirname "$0")/.."
-program=crates/jsh/out/jsh
-if [ ! -x "$program" ]; then
-    (cd crates/jsh && rt run </dev/null >/dev/null)
-fi
+program=$(bench/built.sh jsh)
 exec python3 - "$program" <<'EOS'
 import os, subprocess, sys, time
 

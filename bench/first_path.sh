@@ -3,10 +3,7 @@
 # `jshell` where that is installed, and what a snippet costs as sessions grow. It tests nothing.
 set -eu
 cd "$(dirname "$0")/.."
-program=crates/jsh/out/jsh
-if [ ! -x "$program" ]; then
-    (cd crates/jsh && rt run </dev/null >/dev/null)
-fi
+program=$(bench/built.sh jsh)
 exec python3 - "$program" <<'EOF'
 import os, shutil, subprocess, sys, time
 

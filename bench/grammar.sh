@@ -3,10 +3,7 @@
 # much, so that one sees that the time grows with the length and no faster. It tests nothing.
 set -eu
 cd "$(dirname "$0")/.."
-program=crates/jsh_parse_bench/out/jsh_parse_bench
-if [ ! -x "$program" ]; then
-    (cd crates/jsh_parse_bench && rt run </dev/null >/dev/null)
-fi
+program=$(bench/built.sh jsh_parse_bench)
 exec python3 - "$program" <<'EOS'
 import subprocess, sys, time
 

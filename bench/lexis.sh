@@ -3,10 +3,7 @@
 # that one sees that the time grows with the length and no faster. It tests nothing.
 set -eu
 cd "$(dirname "$0")/.."
-program=crates/jsh_lex_bench/out/jsh_lex_bench
-if [ ! -x "$program" ]; then
-    (cd crates/jsh_lex_bench && rt run </dev/null >/dev/null)
-fi
+program=$(bench/built.sh jsh_lex_bench)
 exec python3 - "$program" <<'EOS'
 import subprocess, sys, time
 

@@ -103,6 +103,12 @@ fn with_semicolon(alloc: Global, text: &str, tokens: &[Token]) -> Result<Vec<Tok
 #[cfg(test)]
 mod expression_shape;
 #[cfg(test)]
+mod expression_tests;
+#[cfg(test)]
+mod readers;
+#[cfg(test)]
+mod refused_tests;
+#[cfg(test)]
 mod shape;
 #[cfg(test)]
 mod spellings;

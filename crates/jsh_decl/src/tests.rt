@@ -1,24 +1,15 @@
+use crate::readers::snippet_of;
 use crate::shape::shape_of;
-use crate::spellings::{joined, with_token};
-use crate::{ParseError, parse_snippet, parse_source};
+use crate::{ParseError, parse_snippet};
 use jsh_lex::{LexError, lex};
-use jsh_tree::{Boxed, TokenKind, Tree};
+use jsh_tree::{Block, BlockStatement, Boxed, ForStart, Span, Stmt, Tree};
 use std::alloc::{AllocError, Global};
 use std::process::Abort;
 use std::test::Fail;
 
-/// What the tokens of a text are read as, with a semicolon behind them where they need one.
-fn read(rt: &impl Abort, alloc: Global, text: &str) -> Result<Tree, ParseError> {
-    assert!(rt; text.len() < 0x1_0000_0000);
-    match lex(alloc, text) {
-        Ok(tokens) => parse_source(alloc, text, &tokens),
-        Err(_) => Err(ParseError::NoMemory),
-    }
-}
-
 /// Statements and blocks, and the shapes of their trees. A shape tells what the snippet is, and has
 /// brackets about all that consists of several parts.
-const STATEMENTS: [(&str, &str); 45] = [
+const STATEMENTS: [(&str, &str); 47] = [
     // an `else` belongs to the nearest `if`
     (
         "if (a) if (b) c(); else d();",
@@ -156,6 +147,14 @@ const STATEMENTS: [(&str, &str); 45] = [
         "{A[][] b = {{c}, {}}; final A d; ((a [0]) = b);}",
     ),
     ("{ final int x; x = 1; }", "{final int x; (x = 1);}"),
+    (
+        "{ x++; --x; a.b.c(); new A(b); }",
+        "{(x ++); (-- x); (a .b .c()); new A(b);}",
+    ),
+    (
+        "{ switch (a) { default: { try { } catch (A b) { } } } }",
+        "{[switch a (default: {[try {} catch A b {}]})]}",
+    ),
 ];
 
 /// The same of expressions, variables and methods.
@@ -337,7 +336,7 @@ const SOURCES: [(&str, &str); 19] = [
 
 /// The shape of what the tokens of a text are read as, where they are a snippet.
 fn shape(rt: &impl Abort, alloc: Global, text: &str) -> Result<Option<String>, AllocError> {
-    match read(rt, alloc, text) {
+    match snippet_of(rt, alloc, text) {
         Ok(tree) => {
             let tree = Boxed::new(alloc, tree)?;
             Ok(Some(shape_of(alloc, tree.get())?))
@@ -377,188 +376,47 @@ fn sources_have_their_trees(rt: HostRuntime) -> Result<(), Fail> {
     have_shapes(&rt, rt.alloc(), &SOURCES)
 }
 
-const ASSIGN: Option<TokenKind> = Some(TokenKind::Assign);
-
-const CATCH: Option<TokenKind> = Some(TokenKind::Catch);
-
-const COLON: Option<TokenKind> = Some(TokenKind::Colon);
-
-const DOT: Option<TokenKind> = Some(TokenKind::Dot);
-
-const LEFT_BRACE: Option<TokenKind> = Some(TokenKind::LeftBrace);
-
-const LEFT_PAREN: Option<TokenKind> = Some(TokenKind::LeftParen);
-
-const NAME: Option<TokenKind> = Some(TokenKind::Identifier);
-
-const SEMICOLON: Option<TokenKind> = Some(TokenKind::Semicolon);
-
-/// Texts that are no snippets, each in two pieces: the refusal's place is where the second begins. One
-/// class of token alone could stand there, or none.
-const REFUSED: [(&str, &str, Option<TokenKind>); 27] = [
-    // statements and variables
-    ("var x", ";", ASSIGN),
-    ("var", "[] x = 1;", NAME),
-    ("a; ", "b;", None),
-    ("int x; ", "int y;", None),
-    ("a + b; ", "else", None),
-    ("switch (a) { case 1 ", "+ 1: }", COLON),
-    ("break ", "a;", SEMICOLON),
-    ("try { } ", "finally { }", CATCH),
-    ("try { } catch (A a) { } ", "finally { }", CATCH),
-    ("try ", "(A a = b) { } catch (C c) { }", LEFT_BRACE),
-    ("try { } catch (A ", "| B c) { }", NAME),
-    // methods
-    ("void f() throws ", "{ }", NAME),
-    ("void", "[] f() { }", NAME),
-    ("void f", "{ }", LEFT_PAREN),
-    ("void f() { } ", ";", None),
-    // classes and interfaces
-    ("class ", "{ }", NAME),
-    ("class A extends ", "{", NAME),
-    ("class A implements ", "{ }", NAME),
-    ("class A { } ", ";", None),
-    ("interface ", "extends A { }", NAME),
-    ("interface A { int x", "; }", LEFT_PAREN),
-    ("interface A { } ", "int x;", None),
-    // imports
-    ("import a", ";", DOT),
-    ("import static a", ";", DOT),
-    ("import a.*", ".b;", SEMICOLON),
-    ("import static ", "static a.b;", NAME),
-    ("import a.b; ", "import c.d;", None),
-];
-
-/// The same of texts in which several classes could stand there.
-const OPEN: [(&str, &str); 82] = [
-    // declarations and expressions that are cut short or go on
-    ("", ") x"),
-    ("a.b ", "c;"),
-    ("int[] x", "[];"),
-    ("int x", "[];"),
-    ("int x ", "y;"),
-    ("int ", "= 3;"),
-    ("a b ", "c"),
-    ("a b ", "c;"),
-    ("a[] b", "[0];"),
-    ("a[] ", "= b;"),
-    ("var x = ", "{1};"),
-    ("x = ", "= 1"),
-    ("f(a,", ""),
-    ("(int) ++", ""),
-    ("1 +", ""),
-    // statements
-    ("if (a) b() ", "else c;"),
-    ("if (a) ", "int x;"),
-    ("if (a) ", "else b();"),
-    ("for (a ", "? b : c; ; ) ;"),
-    ("for (int x = 1", ", y = 2; ; ) ;"),
-    ("for (i = 0", ", j = 0; ; ) ;"),
-    ("for (int i = 0; i < ", "; )"),
-    ("for (x ", ": xs) ;"),
-    ("switch (a) { case ", "b: }"),
-    ("switch (a) { ", "f(); }"),
-    ("", "case 1: ;"),
-    ("", "case 1:"),
-    ("", "else ;"),
-    ("", "else f();"),
-    ("", "catch (A a) { }"),
-    ("{ int x = 1 ", "}"),
-    ("{ f() ", "}"),
-    ("{ return ", "}"),
-    ("{ a ", "+ b; }"),
-    ("{ ", "class A { } }"),
-    ("{ ", "static int x; }"),
-    ("{", ""),
-    // methods
-    ("void f()", ";"),
-    ("void f(int", ") { }"),
-    ("void f(int x, ", ") { }"),
-    ("void f(", "var x) { }"),
-    ("void f(", "static int x) { }"),
-    ("int f()", "[] { }"),
-    ("f() ", "{ }"),
-    // classes and interfaces
-    ("class A", ""),
-    ("class A { ", "static int x; }"),
-    ("class A { ", "static void f() { } }"),
-    ("class A { ", "var x = 1; }"),
-    ("class A { int x ", "}"),
-    ("class A { int x = 1 ", "}"),
-    ("class A { A()", "; }"),
-    ("class A { void A() { this", "(1); } }"),
-    ("class A { ", "class B { } }"),
-    ("class A { ", "{ } }"),
-    ("class A { x ", "= 1; }"),
-    ("class A extends B", ", C { }"),
-    ("class A implements B ", "extends C { }"),
-    ("class A", ".B { }"),
-    ("interface A { ", "; }"),
-    ("interface A { void f() ", "{ } }"),
-    ("interface A { ", "static void f(); }"),
-    ("interface A { ", "private void f(); }"),
-    ("interface A ", "implements B { }"),
-    ("static ", "{ }"),
-    ("public a", "();"),
-    ("final ", ";"),
-    ("public ", "import a.b;"),
-    // imports
-    ("import ", "*;"),
-    ("import a.", ";"),
-    ("import a.b ", "c;"),
-    // what the language leaves out
-    ("a", ": b();"),
-    ("x -", "> y;"),
-    ("A", "::b;"),
-    ("int x", ", y;"),
-    ("class A { int x", ", y; }"),
-    ("void f(int", "... x) { }"),
-    ("A<B", ", C> x;"),
-    ("class A", "<T> { }"),
-    ("", "enum A { }"),
-    ("", "assert a;"),
-    ("", "synchronized (a) { }"),
-    ("", "package a;"),
-];
-
-/// What a refused text wants at the place where its second piece begins. With that in its stead, the
-/// text is taken, or refused only at its end.
-fn wanted_at(
-    rt: &impl Abort,
-    alloc: Global,
-    front: &str,
-    behind: &str,
-) -> Result<Option<TokenKind>, Fail> {
-    let text = joined(alloc, front, behind)?;
-    let Err(ParseError::Wanted { place, wanted }) = read(rt, alloc, text.as_str()) else {
-        return Err(Fail::from("a text isn't refused at a token"));
-    };
-    assert_eq!(rt; place as usize, front.len(), "the place in {text:?}");
-    let Some(kind) = wanted else {
-        return Ok(None);
-    };
-    let further = with_token(alloc, front, kind)?;
-    match read(rt, alloc, further.as_str()) {
-        Ok(_) => {}
-        Err(ParseError::Wanted { place, .. }) => {
-            assert_eq!(rt; place as usize, further.len(), "the place in {further:?}");
-        }
-        Err(_) => return Err(Fail::from("a text isn't refused at a token")),
+/// Where the first statement of a block, or the start of a `for`, declares a variable: its span.
+fn declared_at(tree: &Tree) -> Option<Span> {
+    match tree {
+        Tree::Block(Block { statements, .. }) => match statements.as_slice() {
+            [BlockStatement::Local { span, .. }, ..] => Some(*span),
+            _ => None,
+        },
+        Tree::Statement(
+            Stmt::For {
+                start: ForStart::Local { span, .. },
+                ..
+            },
+        ) => Some(*span),
+        _ => None,
     }
-    Ok(wanted)
 }
 
+/// Texts, and where the declaration of a local in them has its first token.
+const LOCALS: [(&str, u32, u32); 6] = [
+    ("{ int[] x; }", 2, 5),
+    ("{ final A x; }", 2, 7),
+    ("{ var x = 1; }", 2, 5),
+    ("for ( A x = y;;) ;", 6, 7),
+    ("for (final var x = y;;) ;", 5, 10),
+    ("for (var x = y;;) ;", 5, 8),
+];
+
 #[test]
-fn other_texts_are_no_snippets(rt: HostRuntime) -> Result<(), Fail> {
-    for (front, behind, expected) in &REFUSED {
-        let wanted = wanted_at(&rt, rt.alloc(), front, behind)?;
-        assert_eq!(rt; wanted, *expected, "what {front:?} wants");
+fn locals_tell_where_they_begin(rt: HostRuntime) {
+    for (text, from, to) in &LOCALS {
+        match snippet_of(&rt, rt.alloc(), text) {
+            Ok(tree) => {
+                let span = Span {
+                    from: *from,
+                    to: *to,
+                };
+                assert_eq!(rt; declared_at(&tree), Some(span), "where {text:?} declares");
+            }
+            Err(_) => assert!(rt; false, "{text:?} is refused"),
+        }
     }
-    for (front, behind) in &OPEN {
-        let wanted = wanted_at(&rt, rt.alloc(), front, behind)?;
-        assert!(rt; wanted.is_some(), "what {front:?} wants");
-    }
-    Ok(())
 }
 
 /// An annotation has no tokens.
@@ -597,46 +455,19 @@ fn a_snippet_has_its_semicolon(rt: HostRuntime) {
 #[test]
 fn at_most_256_constructs_stand_in_one_another(rt: HostRuntime) {
     match nested(rt.alloc(), 255) {
-        Ok(text) => match read(&rt, rt.alloc(), text.as_str()) {
+        Ok(text) => match snippet_of(&rt, rt.alloc(), text.as_str()) {
             Ok(_) => {}
             Err(error) => assert!(rt; false, "256 are refused"),
         },
         Err(_) => assert!(rt; false, "no memory"),
     }
     match nested(rt.alloc(), 256) {
-        Ok(text) => match read(&rt, rt.alloc(), text.as_str()) {
+        Ok(text) => match snippet_of(&rt, rt.alloc(), text.as_str()) {
             Ok(_) => assert!(rt; false, "257 are taken"),
             Err(error) => assert_eq!(rt; error, ParseError::TooDeep { limit: 256 }),
         },
         Err(_) => assert!(rt; false, "no memory"),
     }
-}
-
-/// The same of parentheses, which a semicolon follows.
-#[test]
-fn a_snippet_has_at_most_256_parentheses(rt: HostRuntime) -> Result<(), Fail> {
-    let deepest = parenthesized(rt.alloc(), 256)?;
-    assert!(rt; read(&rt, rt.alloc(), deepest.as_str()).is_ok());
-    let too_deep = parenthesized(rt.alloc(), 257)?;
-    match read(&rt, rt.alloc(), too_deep.as_str()) {
-        Ok(_) => assert!(rt; false, "a tree"),
-        Err(error) => assert_eq!(rt; error, ParseError::TooDeep { limit: 256 }),
-    }
-    Ok(())
-}
-
-/// `1` in so many pairs of parentheses, and a semicolon.
-fn parenthesized(alloc: Global, depth: u32) -> Result<String, AllocError> {
-    let mut text = String::new(alloc);
-    for _ in 0..depth {
-        text.push_str("(")?;
-    }
-    text.push_str("1")?;
-    for _ in 0..depth {
-        text.push_str(")")?;
-    }
-    text.push_str(";")?;
-    Ok(text)
 }
 
 /// A method with so many blocks in its own.

@@ -164,6 +164,10 @@ operation_at text room height ts = by (operator_at height ts)
     by (Some None) = and_then (type_read text (drop 1 ts)) (λ target rest. Some (Some (operation.InstanceOf target), rest))
     by (Some (Some op)) = and_then (level_at text room height (drop 1 ts)) (λ e rest. Some (Some (operation.Operator op e), rest))
 
+-- what the value so far may be an instance of
+abbrev pub tested : List ℕ → List Token → Read (Option Operation)
+tested text ts = and_then (type_read text ts) (λ target rest. Some (Some (operation.InstanceOf target), rest))
+
 unfoldable pub operations_at : List ℕ → ℕ → ℕ → List Token → Read (List Operation)
 operations_at text room height ts = reader.operations (suc (length ts)) text (9 - height) (level_at text room height) ts
 

@@ -9,7 +9,9 @@ use crate::error::ParseError;
 use crate::input::{Input, assignment_at, colon, deeper, operator_at, right_paren, sees_question};
 use crate::leaves::{is_cast, is_step, is_target, type_use};
 use crate::marks::is_left_paren;
-use crate::nodes::{assignment, choice, conversion, prefixed, stepped, with_operations};
+use crate::nodes::{
+    add, assignment, choice, conversion, instance_of, joined, prefixed, stepped, with_operations,
+};
 use crate::operators::{LEVELS, postfix_operator, unary_operator};
 use crate::path::path;
 use jsh_tree::{Boxed, Expr, Operation, Seq, Token, UnaryOperator};
@@ -44,6 +46,7 @@ pub fn conditional(input: &Input, at: usize, room: u32) -> Result<(Boxed<Expr>, 
 
 /// The branches of a conditional, from behind its `?`.
 #[cycle(parser)]
+#[inline(never)]
 fn branches(
     input: &Input,
     at: usize,
@@ -69,12 +72,13 @@ pub fn level(
     requires { height ≤ 10 }
     ensures { Reads input.now.tokens.now at (read.level_at input.now.text.now room height (drop at input.now.tokens.now)) result }
 {
-    if height == 0 {
-        return unary(input, at, room);
+    let (mut tree, mut end) = unary(input, at, room)?;
+    for lower in 0..height {
+        let (rest, behind) = operations(input, end, room, lower)?;
+        tree = with_operations(input.alloc, tree, rest)?;
+        end = behind;
     }
-    let (first, behind) = level(input, at, room, height - 1)?;
-    let (rest, end) = operations(input, behind, room, height - 1)?;
-    Ok((with_operations(input.alloc, first, rest)?, end))
+    Ok((tree, end))
 }
 
 /// The operators between operands that are so many levels below those of all levels, with their right
@@ -98,7 +102,7 @@ fn operations(
         let Some(further) = further else {
             return Ok((Seq::from_vec(rest), at));
         };
-        rest.push(further)?;
+        add(&mut rest, further)?;
     }
     Err(input.refuse(at, None))
 }
@@ -110,7 +114,7 @@ fn operation(
     at: usize,
     room: u32,
     height: u32,
-) -> Result<(Option<Operation>, usize), ParseError>
+) -> Result<(Option<Boxed<Operation>>, usize), ParseError>
     requires { height < 10 }
     ensures { Reads input.now.tokens.now at (read.operation_at input.now.text.now room height (drop at input.now.tokens.now)) result }
 {
@@ -118,12 +122,19 @@ fn operation(
         return Ok((None, at));
     };
     let Some(operator) = found else {
-        let (target, end) = type_use(input, at + 1)?;
-        return Ok((Some(Operation::InstanceOf(target)), end));
+        return tested(input, at + 1);
     };
     let (operand, end) = level(input, at + 1, room, height)?;
-    let operand = operand.into_inner();
-    Ok((Some(Operation::Operator { operator, operand }), end))
+    Ok((Some(joined(input.alloc, operator, operand)?), end))
+}
+
+/// What the value so far may be an instance of, from behind the word.
+#[inline(never)]
+fn tested(input: &Input, at: usize) -> Result<(Option<Boxed<Operation>>, usize), ParseError>
+    ensures { Reads input.now.tokens.now at (read.tested input.now.text.now (drop at input.now.tokens.now)) result }
+{
+    let (target, end) = type_use(input, at)?;
+    Ok((Some(instance_of(input.alloc, target)?), end))
 }
 
 #[cycle(parser)]

@@ -38,7 +38,7 @@ pub struct CatchHead {
 }
 
 /// What stands between the parentheses of a `for`, with the closing one.
-pub fn for_head(input: &Input, at: usize, room: u32) -> Result<(ForHead, usize), ParseError>
+pub fn for_head(input: &Input, at: usize, room: u32) -> Result<(Boxed<ForHead>, usize), ParseError>
     ensures { Reads input.now.tokens.now at (read.for_head_at input.now.text.now room (drop at input.now.tokens.now)) result }
 {
     let (start, rest) = for_start(input, at, room)?;
@@ -52,7 +52,7 @@ pub fn for_head(input: &Input, at: usize, room: u32) -> Result<(ForHead, usize),
         condition,
         update,
     };
-    Ok((head, end))
+    Ok((Boxed::new(input.alloc, head)?, end))
 }
 
 /// The type of a variable that goes over elements: none for `var`.
@@ -67,7 +67,11 @@ fn element_type(input: &Input, at: usize) -> Result<(Option<TypeUse>, usize), Pa
 }
 
 /// What stands between the parentheses of a `for` that goes over elements, with the closing one.
-pub fn each_head(input: &Input, at: usize, room: u32) -> Result<(EachHead, usize), ParseError>
+pub fn each_head(
+    input: &Input,
+    at: usize,
+    room: u32,
+) -> Result<(Boxed<EachHead>, usize), ParseError>
     ensures { Reads input.now.tokens.now at (read.each_head_at input.now.text.now room (drop at input.now.tokens.now)) result }
 {
     let (is_final, front) = final_word(input, at);
@@ -82,11 +86,11 @@ pub fn each_head(input: &Input, at: usize, room: u32) -> Result<(EachHead, usize
         name,
         array,
     };
-    Ok((head, end))
+    Ok((Boxed::new(input.alloc, head)?, end))
 }
 
 /// What a `catch` has in front of its block.
-pub fn catch_head(input: &Input, at: usize) -> Result<(CatchHead, usize), ParseError>
+pub fn catch_head(input: &Input, at: usize) -> Result<(Boxed<CatchHead>, usize), ParseError>
     ensures { Reads input.now.tokens.now at (read.catch_head_at input.now.text.now (drop at input.now.tokens.now)) result }
 {
     let (_, rest) = catch_word(input, at)?;
@@ -100,5 +104,5 @@ pub fn catch_head(input: &Input, at: usize) -> Result<(CatchHead, usize), ParseE
         class,
         name,
     };
-    Ok((head, end))
+    Ok((Boxed::new(input.alloc, head)?, end))
 }

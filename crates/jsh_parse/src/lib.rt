@@ -124,10 +124,4 @@ fn whole_statement(input: &Input) -> Result<Stmt, ParseError>
 }
 
 #[cfg(test)]
-mod shape;
-#[cfg(test)]
-mod spellings;
-#[cfg(test)]
-mod statement_tests;
-#[cfg(test)]
 mod tests;

@@ -11,8 +11,9 @@ use crate::input::{
     sees_left_bracket, sees_right_brace,
 };
 use crate::marks::{is_comma, is_left_brace, is_right_brace, is_right_paren};
+use crate::nodes::{add, array, plain};
 use crate::path::bracketed;
-use jsh_tree::{Expr, Initial, Seq, TokenKind};
+use jsh_tree::{Boxed, Expr, Initial, Seq, TokenKind};
 
 #[cycle(parser)]
 pub fn arguments(input: &Input, from: usize, room: u32) -> Result<(Seq<Expr>, usize), ParseError>
@@ -41,7 +42,7 @@ fn listed(input: &Input, from: usize, room: u32) -> Result<(Seq<Expr>, usize), P
     let most = input.left(from) + 1;
     for _turn in 0..most {
         let (item, behind) = expr(input, at, room)?;
-        items.push(item.into_inner())?;
+        add(&mut items, item)?;
         if !sees_comma(input, behind) {
             return Ok((Seq::from_vec(items), behind));
         }
@@ -66,14 +67,14 @@ pub fn sizes(input: &Input, from: usize, room: u32) -> Result<(Seq<Expr>, usize)
         let Some(further) = further else {
             return Ok((Seq::from_vec(sizes), at));
         };
-        sizes.push(further)?;
+        add(&mut sizes, further)?;
     }
     Err(input.refuse(at, None))
 }
 
 /// An expression in brackets, where one stands there.
 #[cycle(parser)]
-fn size(input: &Input, at: usize, room: u32) -> Result<(Option<Expr>, usize), ParseError>
+fn size(input: &Input, at: usize, room: u32) -> Result<(Option<Boxed<Expr>>, usize), ParseError>
     ensures value { Reads input.now.tokens.now at (read.size_at input.now.text.now room (drop at input.now.tokens.now)) result }
     ensures inside { IfOk result (λ found. IfSome found.0 (λ _. at < length input.now.tokens.now)) }
     ensures forward { IfOk result (λ found. IfSome found.0 (λ _. at < found.1)) }
@@ -84,7 +85,7 @@ fn size(input: &Input, at: usize, room: u32) -> Result<(Option<Expr>, usize), Pa
     let (_, behind) = left_bracket(input, at)?;
     let inner = deeper(room)?;
     let (size, end) = bracketed(input, behind, inner)?;
-    Ok((Some(size.into_inner()), end))
+    Ok((Some(size), end))
 }
 
 /// The values of an array in braces.
@@ -110,7 +111,7 @@ fn initials(input: &Input, from: usize, room: u32) -> Result<(Seq<Initial>, usiz
     let most = input.left(from) + 1;
     for _turn in 0..most {
         let (value, behind) = initial(input, at, room)?;
-        values.push(value)?;
+        add(&mut values, value)?;
         let (goes_on, next) = behind_value(input, behind)?;
         at = next;
         if !goes_on {
@@ -140,7 +141,7 @@ fn behind_value(input: &Input, at: usize) -> Result<(bool, usize), ParseError>
 }
 
 #[cycle(parser)]
-pub fn initial(input: &Input, at: usize, room: u32) -> Result<(Initial, usize), ParseError>
+pub fn initial(input: &Input, at: usize, room: u32) -> Result<(Boxed<Initial>, usize), ParseError>
     ensures { Reads input.now.tokens.now at (read.initial_at input.now.text.now room (drop at input.now.tokens.now)) result }
 {
     let Some(token) = input.token(at) else {
@@ -148,9 +149,8 @@ pub fn initial(input: &Input, at: usize, room: u32) -> Result<(Initial, usize), 
     };
     if is_left_brace(token.kind) {
         let (values, end) = braces(input, at, room)?;
-        let span = token.span;
-        return Ok((Initial::Array { span, values }, end));
+        return Ok((array(input.alloc, token.span, values)?, end));
     }
     let (value, end) = expr(input, at, room)?;
-    Ok((Initial::Value(value.into_inner()), end))
+    Ok((plain(input.alloc, value)?, end))
 }

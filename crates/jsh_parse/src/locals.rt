@@ -13,6 +13,7 @@ use crate::input::{Input, left_paren, right_paren};
 use crate::leaves::{brackets, identifier, is_step, type_use};
 use crate::list::initial;
 use crate::marks::{is_identifier, is_primitive, names_type};
+use crate::statement_nodes::{local_variable, start_of};
 use crate::word_input::{
     assign, sees_assign, sees_colon, sees_identifier, sees_right_paren, sees_semicolon, sees_var,
     semicolon,
@@ -157,6 +158,7 @@ pub fn variable(input: &Input, at: usize, room: u32) -> Result<(Boxed<Variable>,
         return Ok((variable, behind));
     }
     let (value, end) = initial(input, behind + 1, room)?;
+    let value = value.into_inner();
     let variable = declared(input.alloc, Some(written), name, Some(value))?;
     Ok((variable, end))
 }
@@ -174,20 +176,18 @@ fn inferred(input: &Input, at: usize, room: u32) -> Result<(Boxed<Variable>, usi
 }
 
 /// A variable of a block, with its semicolon.
-pub fn local(input: &Input, at: usize, room: u32) -> Result<(BlockStatement, usize), ParseError>
+pub fn local(
+    input: &Input,
+    at: usize,
+    room: u32,
+) -> Result<(Boxed<BlockStatement>, usize), ParseError>
     ensures { Reads input.now.tokens.now at (read.local_at input.now.text.now room (drop at input.now.tokens.now)) result }
 {
     let span = span_at(input, at);
     let (is_final, rest) = final_word(input, at);
     let (variable, behind) = variable(input, rest, room)?;
     let (_, end) = semicolon(input, behind)?;
-    let variable = variable.into_inner();
-    let local = BlockStatement::Local {
-        span,
-        is_final,
-        variable,
-    };
-    Ok((local, end))
+    Ok((local_variable(input.alloc, span, is_final, variable)?, end))
 }
 
 /// An expression, or nothing where a semicolon stands.
@@ -238,13 +238,7 @@ pub fn for_start(
         let span = span_at(input, at);
         let (is_final, rest) = final_word(input, at);
         let (variable, end) = variable(input, rest, room)?;
-        let variable = variable.into_inner();
-        let start = ForStart::Local {
-            span,
-            is_final,
-            variable,
-        };
-        let start = Boxed::new(input.alloc, start)?;
+        let start = start_of(input.alloc, span, is_final, variable)?;
         return Ok((start, end));
     }
     let (tree, end) = expr(input, at, room)?;

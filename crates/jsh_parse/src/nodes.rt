@@ -1,15 +1,21 @@
-//! Trees, of what stands in them. They are boxed, since what is read in front of more stays beside it.
+//! Trees, of what stands in them. They are boxed, since what is read in front of more stays beside it,
+//! and made in functions that are called and left again, so that no tree lies in a frame of the readers,
+//! which go as deep as a text does.
 
-ghost use Rattle.std.specs.Prelude.{◌≡◌, IfOk};
+ghost use Rattle.std.specs.Prelude.{◌≡◌, [], ◌∷◌, ◌++◌, IfOk};
 ghost use Rattle.jsh_tree.specs.declared.expression.Expr.TheVariants as tree;
+ghost use Rattle.jsh_tree.specs.declared.expression.Operation.TheVariants as operation;
+ghost use Rattle.jsh_tree.specs.declared.expression.PathPart.TheVariants as part;
+ghost use Rattle.jsh_tree.specs.declared.expression.Initial.TheVariants as initial;
 ghost use Rattle.jsh_parse.specs.Reader as reader;
 
 use jsh_tree::{
-    BinaryOperator, Boxed, Expr, Operation, PathPart, PostfixOperator, Seq, Span, TypeUse,
-    UnaryOperator,
+    BinaryOperator, Boxed, Expr, Identifier, Initial, Operation, PathPart, PostfixOperator, Seq,
+    Span, TypeUse, UnaryOperator,
 };
 use std::alloc::{AllocError, Global};
 
+#[inline(never)]
 pub fn assignment(
     alloc: Global,
     target: Boxed<Expr>,
@@ -28,6 +34,7 @@ pub fn assignment(
     )
 }
 
+#[inline(never)]
 pub fn choice(
     alloc: Global,
     condition: Boxed<Expr>,
@@ -40,6 +47,7 @@ pub fn choice(
 }
 
 /// An operand with the operators of a level behind it, where there are any.
+#[inline(never)]
 pub fn with_operations(
     alloc: Global,
     first: Boxed<Expr>,
@@ -53,6 +61,7 @@ pub fn with_operations(
     Boxed::new(alloc, Expr::Binary { first, rest })
 }
 
+#[inline(never)]
 pub fn prefixed(
     alloc: Global,
     span: Span,
@@ -71,6 +80,7 @@ pub fn prefixed(
     )
 }
 
+#[inline(never)]
 pub fn conversion(
     alloc: Global,
     span: Span,
@@ -89,6 +99,7 @@ pub fn conversion(
     )
 }
 
+#[inline(never)]
 pub fn stepped(
     alloc: Global,
     operand: Boxed<Expr>,
@@ -100,6 +111,7 @@ pub fn stepped(
 }
 
 /// An expression with members and indices behind it, where there are any.
+#[inline(never)]
 pub fn with_parts(
     alloc: Global,
     first: Boxed<Expr>,
@@ -113,6 +125,7 @@ pub fn with_parts(
     Boxed::new(alloc, Expr::Path { first, parts })
 }
 
+#[inline(never)]
 pub fn parenthesized(
     alloc: Global,
     span: Span,
@@ -121,4 +134,136 @@ pub fn parenthesized(
     ensures { IfOk result (λ node. node ≡ tree.Parenthesized span inner) }
 {
     Boxed::new(alloc, Expr::Parenthesized { span, inner })
+}
+
+/// Puts what is in a box behind the others.
+#[inline(never)]
+pub fn add<T: Drop>(items: &mut Vec<T>, further: Boxed<T>) -> Result<(), AllocError>
+    ensures { IfOk result (λ _. items.new.items ≡ items.old.items ++ further ∷ []) }
+{
+    items.push(further.into_inner())?;
+    Ok(())
+}
+
+#[inline(never)]
+pub fn joined(
+    alloc: Global,
+    operator: BinaryOperator,
+    operand: Boxed<Expr>,
+) -> Result<Boxed<Operation>, AllocError>
+    ensures { IfOk result (λ node. node ≡ operation.Operator operator operand) }
+{
+    let operand = operand.into_inner();
+    Boxed::new(alloc, Operation::Operator { operator, operand })
+}
+
+#[inline(never)]
+pub fn instance_of(alloc: Global, target: TypeUse) -> Result<Boxed<Operation>, AllocError>
+    ensures { IfOk result (λ node. node ≡ operation.InstanceOf target) }
+{
+    Boxed::new(alloc, Operation::InstanceOf(target))
+}
+
+#[inline(never)]
+pub fn field(alloc: Global, name: Identifier) -> Result<Boxed<PathPart>, AllocError>
+    ensures { IfOk result (λ node. node ≡ part.Field name) }
+{
+    Boxed::new(alloc, PathPart::Field(name))
+}
+
+#[inline(never)]
+pub fn method(
+    alloc: Global,
+    name: Identifier,
+    arguments: Seq<Expr>,
+) -> Result<Boxed<PathPart>, AllocError>
+    ensures { IfOk result (λ node. node ≡ part.Call name arguments) }
+{
+    Boxed::new(alloc, PathPart::Call { name, arguments })
+}
+
+#[inline(never)]
+pub fn indexed(alloc: Global, index: Boxed<Expr>) -> Result<Boxed<PathPart>, AllocError>
+    ensures { IfOk result (λ node. node ≡ part.Index index) }
+{
+    Boxed::new(alloc, PathPart::Index(index.into_inner()))
+}
+
+#[inline(never)]
+pub fn this(alloc: Global, span: Span) -> Result<Boxed<Expr>, AllocError>
+    ensures { IfOk result (λ node. node ≡ tree.This span) }
+{
+    Boxed::new(alloc, Expr::This { span })
+}
+
+#[inline(never)]
+pub fn name_alone(alloc: Global, name: Identifier) -> Result<Boxed<Expr>, AllocError>
+    ensures { IfOk result (λ node. node ≡ tree.Name name) }
+{
+    Boxed::new(alloc, Expr::Name(name))
+}
+
+#[inline(never)]
+pub fn call(
+    alloc: Global,
+    name: Identifier,
+    arguments: Seq<Expr>,
+) -> Result<Boxed<Expr>, AllocError>
+    ensures { IfOk result (λ node. node ≡ tree.Call name arguments) }
+{
+    Boxed::new(alloc, Expr::Call { name, arguments })
+}
+
+#[inline(never)]
+pub fn super_call(
+    alloc: Global,
+    span: Span,
+    name: Identifier,
+    arguments: Seq<Expr>,
+) -> Result<Boxed<Expr>, AllocError>
+    ensures { IfOk result (λ node. node ≡ tree.SuperCall span name arguments) }
+{
+    Boxed::new(
+        alloc,
+        Expr::SuperCall {
+            span,
+            name,
+            arguments,
+        },
+    )
+}
+
+#[inline(never)]
+pub fn array_of(
+    alloc: Global,
+    span: Span,
+    created: TypeUse,
+    brace: Span,
+    values: Seq<Initial>,
+) -> Result<Boxed<Expr>, AllocError>
+    ensures { IfOk result (λ node. node ≡ tree.NewArrayOf span created brace values) }
+{
+    Boxed::new(
+        alloc,
+        Expr::NewArrayOf {
+            span,
+            created,
+            brace,
+            values,
+        },
+    )
+}
+
+#[inline(never)]
+pub fn array(alloc: Global, span: Span, values: Seq<Initial>) -> Result<Boxed<Initial>, AllocError>
+    ensures { IfOk result (λ node. node ≡ initial.Array span values) }
+{
+    Boxed::new(alloc, Initial::Array { span, values })
+}
+
+#[inline(never)]
+pub fn plain(alloc: Global, value: Boxed<Expr>) -> Result<Boxed<Initial>, AllocError>
+    ensures { IfOk result (λ node. node ≡ initial.Value value) }
+{
+    Boxed::new(alloc, Initial::Value(value.into_inner()))
 }

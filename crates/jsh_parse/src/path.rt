@@ -16,7 +16,10 @@ use crate::list::{arguments, braces, sizes};
 use crate::marks::{
     is_dot, is_identifier, is_left_bracket, is_left_paren, is_new, is_super, is_this,
 };
-use crate::nodes::{parenthesized, with_parts};
+use crate::nodes::{
+    add, array_of, call, field, indexed, method, name_alone, parenthesized, super_call, this,
+    with_parts,
+};
 use jsh_tree::{Boxed, Expr, PathPart, Seq, Token, TokenKind};
 use std::alloc::AllocError;
 
@@ -31,6 +34,7 @@ pub fn path(input: &Input, at: usize, room: u32) -> Result<(Boxed<Expr>, usize),
 
 /// The members and indices from a place on.
 #[cycle(parser)]
+#[inline(never)]
 fn parts(input: &Input, from: usize, room: u32) -> Result<(Seq<PathPart>, usize), ParseError>
     ensures { Reads input.now.tokens.now from (read.parts_at input.now.text.now room (drop from input.now.tokens.now)) result }
 {
@@ -43,14 +47,14 @@ fn parts(input: &Input, from: usize, room: u32) -> Result<(Seq<PathPart>, usize)
         let Some(further) = further else {
             return Ok((Seq::from_vec(parts), at));
         };
-        parts.push(further)?;
+        add(&mut parts, further)?;
     }
     Err(input.refuse(at, None))
 }
 
 /// A member or an index, where one stands there.
 #[cycle(parser)]
-fn part(input: &Input, at: usize, room: u32) -> Result<(Option<PathPart>, usize), ParseError>
+fn part(input: &Input, at: usize, room: u32) -> Result<(Option<Boxed<PathPart>>, usize), ParseError>
     ensures { Reads input.now.tokens.now at (read.part_at input.now.text.now room (drop at input.now.tokens.now)) result }
 {
     let Some(token) = input.token(at) else {
@@ -59,15 +63,15 @@ fn part(input: &Input, at: usize, room: u32) -> Result<(Option<PathPart>, usize)
     if is_dot(token.kind) {
         let (name, behind) = identifier(input, at + 1)?;
         if !sees_left_paren(input, behind) {
-            return Ok((Some(PathPart::Field(name)), behind));
+            return Ok((Some(field(input.alloc, name)?), behind));
         }
         let (arguments, end) = arguments(input, behind, room)?;
-        return Ok((Some(PathPart::Call { name, arguments }), end));
+        return Ok((Some(method(input.alloc, name, arguments)?), end));
     }
     if is_left_bracket(token.kind) {
         let inner = deeper(room)?;
         let (index, end) = bracketed(input, at + 1, inner)?;
-        return Ok((Some(PathPart::Index(index.into_inner())), end));
+        return Ok((Some(indexed(input.alloc, index)?), end));
     }
     Ok((None, at))
 }
@@ -99,8 +103,7 @@ fn primary(input: &Input, at: usize, room: u32) -> Result<(Boxed<Expr>, usize), 
         return enclosed(input, token, at + 1, room);
     }
     if is_this(token.kind) {
-        let tree = Boxed::new(input.alloc, Expr::This { span: token.span })?;
-        return Ok((tree, at + 1));
+        return Ok((this(input.alloc, token.span)?, at + 1));
     }
     if is_super(token.kind) {
         return through_super(input, token, at + 1, room);
@@ -141,11 +144,10 @@ fn named(
 {
     let name = identifier_of(input, token)?;
     if !sees_left_paren(input, at) {
-        return Ok((Boxed::new(input.alloc, Expr::Name(name))?, at));
+        return Ok((name_alone(input.alloc, name)?, at));
     }
     let (arguments, end) = arguments(input, at, room)?;
-    let tree = Expr::Call { name, arguments };
-    Ok((Boxed::new(input.alloc, tree)?, end))
+    Ok((call(input.alloc, name, arguments)?, end))
 }
 
 /// A call of the superclass's method, from behind the word `super`.
@@ -161,12 +163,7 @@ fn through_super(
     let (_, rest) = dot(input, at)?;
     let (name, behind) = identifier(input, rest)?;
     let (arguments, end) = arguments(input, behind, room)?;
-    let tree = Expr::SuperCall {
-        span: token.span,
-        name,
-        arguments,
-    };
-    Ok((Boxed::new(input.alloc, tree)?, end))
+    Ok((super_call(input.alloc, token.span, name, arguments)?, end))
 }
 
 /// What stands behind `new` and the name of a type.
@@ -214,15 +211,11 @@ fn filled(
     };
     let created = type_of(input, name, dims)?;
     let (values, end) = braces(input, rest, room)?;
-    let tree = Expr::NewArrayOf {
-        span: token.span,
-        created,
-        brace: brace.span,
-        values,
-    };
-    Ok((Boxed::new(input.alloc, tree)?, end))
+    let tree = array_of(input.alloc, token.span, created, brace.span, values)?;
+    Ok((tree, end))
 }
 
+#[inline(never)]
 fn new_object(
     input: &Input,
     token: Token,
@@ -242,6 +235,7 @@ fn new_object(
 }
 
 /// A new array with these sizes, from behind them.
+#[inline(never)]
 fn new_array(
     input: &Input,
     token: Token,

@@ -11,11 +11,12 @@ use crate::heads::{catch_head, each_head, for_head};
 use crate::input::{Input, deeper, left_brace, left_paren, right_brace};
 use crate::labels::labels;
 use crate::locals::{begins_local, condition, is_for_each, local};
+use crate::nodes::add;
 use crate::simple::{
     break_off, continue_on, empty, expression_statement, return_from, throw_up, tried,
 };
 use crate::statement_nodes::{
-    braced, caught, choice, counted, do_loop, each, selection, while_loop,
+    braced, caught, choice, counted, do_loop, each, grouped, inside_block, selection, while_loop,
 };
 use crate::word_input::{ends_block, sees_catch, sees_else, sees_label, semicolon, while_word};
 use jsh_tree::{Block, BlockStatement, Boxed, CatchClause, Seq, Stmt, SwitchGroup, Token};
@@ -162,7 +163,7 @@ fn groups(input: &Input, from: usize, room: u32) -> Result<(Seq<SwitchGroup>, us
             return Ok((Seq::from_vec(groups), at));
         }
         let (further, behind) = group(input, at, room)?;
-        groups.push(further)?;
+        add(&mut groups, further)?;
         at = behind;
     }
     Err(input.refuse(at, None))
@@ -170,12 +171,12 @@ fn groups(input: &Input, from: usize, room: u32) -> Result<(Seq<SwitchGroup>, us
 
 /// Labels that stand together, with the statements behind them.
 #[cycle(statements)]
-fn group(input: &Input, at: usize, room: u32) -> Result<(SwitchGroup, usize), ParseError>
+fn group(input: &Input, at: usize, room: u32) -> Result<(Boxed<SwitchGroup>, usize), ParseError>
     ensures { Reads input.now.tokens.now at (read.group_at input.now.text.now room (drop at input.now.tokens.now)) result }
 {
     let (labels, rest) = labels(input, at)?;
     let (statements, end) = statements(input, rest, room)?;
-    Ok((SwitchGroup { labels, statements }, end))
+    Ok((grouped(input.alloc, labels, statements)?, end))
 }
 
 /// The statements up to a brace or a label.
@@ -195,7 +196,7 @@ pub fn statements(
             return Ok((Seq::from_vec(inside), at));
         }
         let (further, behind) = block_statement(input, at, room)?;
-        inside.push(further)?;
+        add(&mut inside, further)?;
         at = behind;
     }
     Err(input.refuse(at, None))
@@ -207,14 +208,14 @@ fn block_statement(
     input: &Input,
     at: usize,
     room: u32,
-) -> Result<(BlockStatement, usize), ParseError>
+) -> Result<(Boxed<BlockStatement>, usize), ParseError>
     ensures { Reads input.now.tokens.now at (read.block_statement_at input.now.text.now room (drop at input.now.tokens.now)) result }
 {
     if begins_local(input, at) {
         return local(input, at, room);
     }
     let (tree, end) = stmt(input, at, room)?;
-    Ok((BlockStatement::Statement(tree.into_inner()), end))
+    Ok((inside_block(input.alloc, tree)?, end))
 }
 
 #[cycle(statements)]
@@ -257,7 +258,7 @@ fn catches(input: &Input, from: usize, room: u32) -> Result<(Seq<CatchClause>, u
             return Ok((Seq::from_vec(catches), at));
         }
         let (further, behind) = catch(input, at, room)?;
-        catches.push(further)?;
+        add(&mut catches, further)?;
         at = behind;
     }
     Err(input.refuse(at, None))
@@ -265,10 +266,10 @@ fn catches(input: &Input, from: usize, room: u32) -> Result<(Seq<CatchClause>, u
 
 /// One `catch`.
 #[cycle(statements)]
-fn catch(input: &Input, at: usize, room: u32) -> Result<(CatchClause, usize), ParseError>
+fn catch(input: &Input, at: usize, room: u32) -> Result<(Boxed<CatchClause>, usize), ParseError>
     ensures { Reads input.now.tokens.now at (read.catch_at input.now.text.now room (drop at input.now.tokens.now)) result }
 {
     let (head, rest) = catch_head(input, at)?;
     let (block, end) = block(input, rest, room)?;
-    Ok((caught(head, block), end))
+    Ok((caught(input.alloc, head, block)?, end))
 }

@@ -2,10 +2,16 @@
 
 ghost use Rattle.std.specs.Prelude.{◌≡◌, None, Some, IfOk};
 ghost use Rattle.jsh_tree.specs.declared.statement.Stmt.TheVariants as statement;
+ghost use Rattle.jsh_tree.specs.declared.statement.BlockStatement.TheVariants as block_statement;
+ghost use Rattle.jsh_tree.specs.declared.statement.ForStart.TheVariants as start;
+ghost use Rattle.jsh_tree.specs.declared.statement.SwitchGroup.{roll-SwitchGroup};
 ghost use Rattle.jsh_tree.specs.declared.statement.CatchClause.{roll-CatchClause};
 
 use crate::heads::{CatchHead, EachHead, ForHead};
-use jsh_tree::{Block, Boxed, CatchClause, Expr, Seq, Span, Stmt, SwitchGroup};
+use jsh_tree::{
+    Block, BlockStatement, Boxed, CatchClause, Expr, ForStart, Seq, Span, Stmt, SwitchGroup,
+    SwitchLabel, Variable,
+};
 use std::alloc::{AllocError, Global};
 
 /// An expression out of its box, where there is one.
@@ -18,18 +24,21 @@ fn unboxed(tree: Option<Boxed<Expr>>) -> Option<Expr>
     }
 }
 
+#[inline(never)]
 pub fn braced(alloc: Global, block: Block) -> Result<Boxed<Stmt>, AllocError>
     ensures { IfOk result (λ node. node ≡ statement.Block block) }
 {
     Boxed::new(alloc, Stmt::Block(block))
 }
 
+#[inline(never)]
 pub fn alone(alloc: Global, tree: Boxed<Expr>) -> Result<Boxed<Stmt>, AllocError>
     ensures { IfOk result (λ node. node ≡ statement.Expression tree) }
 {
     Boxed::new(alloc, Stmt::Expression(tree.into_inner()))
 }
 
+#[inline(never)]
 pub fn choice(
     alloc: Global,
     span: Span,
@@ -49,6 +58,7 @@ pub fn choice(
     Boxed::new(alloc, tree)
 }
 
+#[inline(never)]
 pub fn while_loop(
     alloc: Global,
     span: Span,
@@ -66,6 +76,7 @@ pub fn while_loop(
     Boxed::new(alloc, tree)
 }
 
+#[inline(never)]
 pub fn do_loop(
     alloc: Global,
     span: Span,
@@ -83,10 +94,11 @@ pub fn do_loop(
     Boxed::new(alloc, tree)
 }
 
+#[inline(never)]
 pub fn counted(
     alloc: Global,
     span: Span,
-    head: ForHead,
+    head: Boxed<ForHead>,
     body: Boxed<Stmt>,
 ) -> Result<Boxed<Stmt>, AllocError>
     ensures { IfOk result (λ node. node ≡ statement.For span head.start head.condition head.update body) }
@@ -95,7 +107,7 @@ pub fn counted(
         start,
         condition,
         update,
-    } = head;
+    } = head.into_inner();
     let start = start.into_inner();
     let condition = unboxed(condition);
     let update = unboxed(update);
@@ -109,10 +121,11 @@ pub fn counted(
     Boxed::new(alloc, tree)
 }
 
+#[inline(never)]
 pub fn each(
     alloc: Global,
     span: Span,
-    head: EachHead,
+    head: Boxed<EachHead>,
     body: Boxed<Stmt>,
 ) -> Result<Boxed<Stmt>, AllocError>
     ensures { IfOk result (λ node. node ≡ statement.ForEach span head.is_final head.written head.name head.array body) }
@@ -122,7 +135,7 @@ pub fn each(
         written,
         name,
         array,
-    } = head;
+    } = head.into_inner();
     let array = array.into_inner();
     let tree = Stmt::ForEach {
         span,
@@ -135,6 +148,7 @@ pub fn each(
     Boxed::new(alloc, tree)
 }
 
+#[inline(never)]
 pub fn selection(
     alloc: Global,
     span: Span,
@@ -152,6 +166,7 @@ pub fn selection(
     Boxed::new(alloc, tree)
 }
 
+#[inline(never)]
 pub fn returned(
     alloc: Global,
     span: Span,
@@ -163,6 +178,7 @@ pub fn returned(
     Boxed::new(alloc, Stmt::Return { span, value })
 }
 
+#[inline(never)]
 pub fn thrown(alloc: Global, span: Span, value: Boxed<Expr>) -> Result<Boxed<Stmt>, AllocError>
     ensures { IfOk result (λ node. node ≡ statement.Throw span value) }
 {
@@ -170,6 +186,7 @@ pub fn thrown(alloc: Global, span: Span, value: Boxed<Expr>) -> Result<Boxed<Stm
     Boxed::new(alloc, Stmt::Throw { span, value })
 }
 
+#[inline(never)]
 pub fn guarded(
     alloc: Global,
     span: Span,
@@ -186,18 +203,81 @@ pub fn guarded(
     Boxed::new(alloc, tree)
 }
 
-pub fn caught(head: CatchHead, block: Block) -> CatchClause
-    ensures { result ≡ roll-CatchClause (record { is_final = head.is_final; class = head.class; name = head.name; block = block }) }
+#[inline(never)]
+pub fn caught(
+    alloc: Global,
+    head: Boxed<CatchHead>,
+    block: Block,
+) -> Result<Boxed<CatchClause>, AllocError>
+    ensures { IfOk result (λ node. node ≡ roll-CatchClause (record { is_final = head.is_final; class = head.class; name = head.name; block = block })) }
 {
     let CatchHead {
         is_final,
         class,
         name,
-    } = head;
-    CatchClause {
+    } = head.into_inner();
+    let clause = CatchClause {
         is_final,
         class,
         name,
         block,
-    }
+    };
+    Boxed::new(alloc, clause)
+}
+
+#[inline(never)]
+pub fn grouped(
+    alloc: Global,
+    labels: Seq<SwitchLabel>,
+    statements: Seq<BlockStatement>,
+) -> Result<Boxed<SwitchGroup>, AllocError>
+    ensures { IfOk result (λ node. node ≡ roll-SwitchGroup (record { labels = labels; statements = statements })) }
+{
+    Boxed::new(alloc, SwitchGroup { labels, statements })
+}
+
+/// A statement of a block.
+#[inline(never)]
+pub fn inside_block(alloc: Global, tree: Boxed<Stmt>) -> Result<Boxed<BlockStatement>, AllocError>
+    ensures { IfOk result (λ node. node ≡ block_statement.Statement tree) }
+{
+    Boxed::new(alloc, BlockStatement::Statement(tree.into_inner()))
+}
+
+/// A variable of a block.
+#[inline(never)]
+pub fn local_variable(
+    alloc: Global,
+    span: Span,
+    is_final: bool,
+    variable: Boxed<Variable>,
+) -> Result<Boxed<BlockStatement>, AllocError>
+    ensures { IfOk result (λ node. node ≡ block_statement.Local span is_final variable) }
+{
+    let variable = variable.into_inner();
+    let local = BlockStatement::Local {
+        span,
+        is_final,
+        variable,
+    };
+    Boxed::new(alloc, local)
+}
+
+/// A variable that a `for` begins with.
+#[inline(never)]
+pub fn start_of(
+    alloc: Global,
+    span: Span,
+    is_final: bool,
+    variable: Boxed<Variable>,
+) -> Result<Boxed<ForStart>, AllocError>
+    ensures { IfOk result (λ node. node ≡ start.Local span is_final variable) }
+{
+    let variable = variable.into_inner();
+    let start = ForStart::Local {
+        span,
+        is_final,
+        variable,
+    };
+    Boxed::new(alloc, start)
 }

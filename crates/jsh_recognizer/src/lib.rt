@@ -5,8 +5,6 @@ mod answer;
 mod classes;
 mod creations;
 mod declarations;
-#[cfg(test)]
-mod deep_tests;
 mod frame;
 mod fresh;
 mod laws;

@@ -1,6 +1,6 @@
-//! Lists of tokens, and how much of them is taken.
+//! Lists of tokens, and how much of them is taken. Many more texts are read through the crates above.
 
-use crate::{End, Start, scan};
+use crate::{Advance, End, Recognizer, Start, scan};
 use jsh_tree::{Span, Token, TokenKind};
 use std::alloc::Global;
 use std::process::Abort;
@@ -15,7 +15,7 @@ type Row = (
     &'static str,
 );
 
-pub fn name_of(end: End) -> &'static str {
+fn name_of(end: End) -> &'static str {
     match end {
         End::Whole => "whole",
         End::Open(_) => "open",
@@ -24,7 +24,7 @@ pub fn name_of(end: End) -> &'static str {
     }
 }
 
-pub fn tokens_of(alloc: Global, kinds: &[TokenKind]) -> Result<Vec<Token>, Fail> {
+fn tokens_of(alloc: Global, kinds: &[TokenKind]) -> Result<Vec<Token>, Fail> {
     let mut tokens = Vec::new(alloc);
     for kind in kinds {
         tokens.push(Token {
@@ -45,8 +45,7 @@ fn check_all(rt: &impl Abort, alloc: Global, rows: &[Row]) -> Result<(), Fail> {
     Ok(())
 }
 
-const EXPRESSIONS: [Row; 24] = [
-    (Start::Expression, "a", &[TokenKind::Identifier], 1, "whole"),
+const ROWS: [Row; 9] = [
     (
         Start::Expression,
         "a + 1 * b",
@@ -76,57 +75,6 @@ const EXPRESSIONS: [Row; 24] = [
     ),
     (
         Start::Expression,
-        "(int) a",
-        &[
-            TokenKind::LeftParen,
-            TokenKind::Int,
-            TokenKind::RightParen,
-            TokenKind::Identifier,
-        ],
-        4,
-        "whole",
-    ),
-    (
-        Start::Expression,
-        "(a) b",
-        &[
-            TokenKind::LeftParen,
-            TokenKind::Identifier,
-            TokenKind::RightParen,
-            TokenKind::Identifier,
-        ],
-        4,
-        "whole",
-    ),
-    (
-        Start::Expression,
-        "(a) + b",
-        &[
-            TokenKind::LeftParen,
-            TokenKind::Identifier,
-            TokenKind::RightParen,
-            TokenKind::Plus,
-            TokenKind::Identifier,
-        ],
-        5,
-        "whole",
-    ),
-    (
-        Start::Expression,
-        "(a[]) b",
-        &[
-            TokenKind::LeftParen,
-            TokenKind::Identifier,
-            TokenKind::LeftBracket,
-            TokenKind::RightBracket,
-            TokenKind::RightParen,
-            TokenKind::Identifier,
-        ],
-        6,
-        "whole",
-    ),
-    (
-        Start::Expression,
         "(a[0]) b",
         &[
             TokenKind::LeftParen,
@@ -139,371 +87,6 @@ const EXPRESSIONS: [Row; 24] = [
         ],
         6,
         "refused",
-    ),
-    (
-        Start::Expression,
-        "a = b = c",
-        &[
-            TokenKind::Identifier,
-            TokenKind::Assign,
-            TokenKind::Identifier,
-            TokenKind::Assign,
-            TokenKind::Identifier,
-        ],
-        5,
-        "whole",
-    ),
-    (
-        Start::Expression,
-        "a + b = c",
-        &[
-            TokenKind::Identifier,
-            TokenKind::Plus,
-            TokenKind::Identifier,
-            TokenKind::Assign,
-            TokenKind::Identifier,
-        ],
-        3,
-        "refused",
-    ),
-    (
-        Start::Expression,
-        "++a",
-        &[TokenKind::PlusPlus, TokenKind::Identifier],
-        2,
-        "whole",
-    ),
-    (
-        Start::Expression,
-        "++a++",
-        &[
-            TokenKind::PlusPlus,
-            TokenKind::Identifier,
-            TokenKind::PlusPlus,
-        ],
-        2,
-        "refused",
-    ),
-    (
-        Start::Expression,
-        "++f()",
-        &[
-            TokenKind::PlusPlus,
-            TokenKind::Identifier,
-            TokenKind::LeftParen,
-            TokenKind::RightParen,
-        ],
-        4,
-        "open",
-    ),
-    (
-        Start::Expression,
-        "new int[2][]",
-        &[
-            TokenKind::New,
-            TokenKind::Int,
-            TokenKind::LeftBracket,
-            TokenKind::IntLiteral,
-            TokenKind::RightBracket,
-            TokenKind::LeftBracket,
-            TokenKind::RightBracket,
-        ],
-        7,
-        "whole",
-    ),
-    (
-        Start::Expression,
-        "new int[][2]",
-        &[
-            TokenKind::New,
-            TokenKind::Int,
-            TokenKind::LeftBracket,
-            TokenKind::RightBracket,
-            TokenKind::LeftBracket,
-            TokenKind::IntLiteral,
-            TokenKind::RightBracket,
-        ],
-        5,
-        "refused",
-    ),
-    (
-        Start::Expression,
-        "new int[] { 1, 2, }",
-        &[
-            TokenKind::New,
-            TokenKind::Int,
-            TokenKind::LeftBracket,
-            TokenKind::RightBracket,
-            TokenKind::LeftBrace,
-            TokenKind::IntLiteral,
-            TokenKind::Comma,
-            TokenKind::IntLiteral,
-            TokenKind::Comma,
-            TokenKind::RightBrace,
-        ],
-        10,
-        "whole",
-    ),
-    (
-        Start::Expression,
-        "new a(1, b).c()",
-        &[
-            TokenKind::New,
-            TokenKind::Identifier,
-            TokenKind::LeftParen,
-            TokenKind::IntLiteral,
-            TokenKind::Comma,
-            TokenKind::Identifier,
-            TokenKind::RightParen,
-            TokenKind::Dot,
-            TokenKind::Identifier,
-            TokenKind::LeftParen,
-            TokenKind::RightParen,
-        ],
-        11,
-        "whole",
-    ),
-    (
-        Start::Expression,
-        "a instanceof b[] && c",
-        &[
-            TokenKind::Identifier,
-            TokenKind::Instanceof,
-            TokenKind::Identifier,
-            TokenKind::LeftBracket,
-            TokenKind::RightBracket,
-            TokenKind::AndAnd,
-            TokenKind::Identifier,
-        ],
-        7,
-        "whole",
-    ),
-    (
-        Start::Expression,
-        "a instanceof b + c",
-        &[
-            TokenKind::Identifier,
-            TokenKind::Instanceof,
-            TokenKind::Identifier,
-            TokenKind::Plus,
-            TokenKind::Identifier,
-        ],
-        3,
-        "refused",
-    ),
-    (
-        Start::Expression,
-        "a ? b : c ? d : e",
-        &[
-            TokenKind::Identifier,
-            TokenKind::Question,
-            TokenKind::Identifier,
-            TokenKind::Colon,
-            TokenKind::Identifier,
-            TokenKind::Question,
-            TokenKind::Identifier,
-            TokenKind::Colon,
-            TokenKind::Identifier,
-        ],
-        9,
-        "whole",
-    ),
-    (
-        Start::Expression,
-        "a ? b",
-        &[
-            TokenKind::Identifier,
-            TokenKind::Question,
-            TokenKind::Identifier,
-        ],
-        3,
-        "open",
-    ),
-    (
-        Start::Expression,
-        "f(a, )",
-        &[
-            TokenKind::Identifier,
-            TokenKind::LeftParen,
-            TokenKind::Identifier,
-            TokenKind::Comma,
-            TokenKind::RightParen,
-        ],
-        4,
-        "refused",
-    ),
-    (
-        Start::Expression,
-        "super.f()",
-        &[
-            TokenKind::Super,
-            TokenKind::Dot,
-            TokenKind::Identifier,
-            TokenKind::LeftParen,
-            TokenKind::RightParen,
-        ],
-        5,
-        "whole",
-    ),
-];
-
-const STATEMENTS: [Row; 12] = [
-    (Start::Statement, ";", &[TokenKind::Semicolon], 1, "whole"),
-    (
-        Start::Statement,
-        "if (a) b(); else ;",
-        &[
-            TokenKind::If,
-            TokenKind::LeftParen,
-            TokenKind::Identifier,
-            TokenKind::RightParen,
-            TokenKind::Identifier,
-            TokenKind::LeftParen,
-            TokenKind::RightParen,
-            TokenKind::Semicolon,
-            TokenKind::Else,
-            TokenKind::Semicolon,
-        ],
-        10,
-        "whole",
-    ),
-    (
-        Start::Statement,
-        "if (a) b()",
-        &[
-            TokenKind::If,
-            TokenKind::LeftParen,
-            TokenKind::Identifier,
-            TokenKind::RightParen,
-            TokenKind::Identifier,
-            TokenKind::LeftParen,
-            TokenKind::RightParen,
-        ],
-        7,
-        "open",
-    ),
-    (
-        Start::Statement,
-        "a + b;",
-        &[
-            TokenKind::Identifier,
-            TokenKind::Plus,
-            TokenKind::Identifier,
-            TokenKind::Semicolon,
-        ],
-        1,
-        "refused",
-    ),
-    (
-        Start::Statement,
-        "for (int i = 0; i < 9; i++) { a(i); }",
-        &[
-            TokenKind::For,
-            TokenKind::LeftParen,
-            TokenKind::Int,
-            TokenKind::Identifier,
-            TokenKind::Assign,
-            TokenKind::IntLiteral,
-            TokenKind::Semicolon,
-            TokenKind::Identifier,
-            TokenKind::LessThan,
-            TokenKind::IntLiteral,
-            TokenKind::Semicolon,
-            TokenKind::Identifier,
-            TokenKind::PlusPlus,
-            TokenKind::RightParen,
-            TokenKind::LeftBrace,
-            TokenKind::Identifier,
-            TokenKind::LeftParen,
-            TokenKind::Identifier,
-            TokenKind::RightParen,
-            TokenKind::Semicolon,
-            TokenKind::RightBrace,
-        ],
-        21,
-        "whole",
-    ),
-    (
-        Start::Statement,
-        "for (a b : c) d();",
-        &[
-            TokenKind::For,
-            TokenKind::LeftParen,
-            TokenKind::Identifier,
-            TokenKind::Identifier,
-            TokenKind::Colon,
-            TokenKind::Identifier,
-            TokenKind::RightParen,
-            TokenKind::Identifier,
-            TokenKind::LeftParen,
-            TokenKind::RightParen,
-            TokenKind::Semicolon,
-        ],
-        11,
-        "whole",
-    ),
-    (
-        Start::Statement,
-        "do a(); while (b);",
-        &[
-            TokenKind::Do,
-            TokenKind::Identifier,
-            TokenKind::LeftParen,
-            TokenKind::RightParen,
-            TokenKind::Semicolon,
-            TokenKind::While,
-            TokenKind::LeftParen,
-            TokenKind::Identifier,
-            TokenKind::RightParen,
-            TokenKind::Semicolon,
-        ],
-        10,
-        "whole",
-    ),
-    (
-        Start::Statement,
-        "switch (a) { case -1: b(); default: break; }",
-        &[
-            TokenKind::Switch,
-            TokenKind::LeftParen,
-            TokenKind::Identifier,
-            TokenKind::RightParen,
-            TokenKind::LeftBrace,
-            TokenKind::Case,
-            TokenKind::Minus,
-            TokenKind::IntLiteral,
-            TokenKind::Colon,
-            TokenKind::Identifier,
-            TokenKind::LeftParen,
-            TokenKind::RightParen,
-            TokenKind::Semicolon,
-            TokenKind::Default,
-            TokenKind::Colon,
-            TokenKind::Break,
-            TokenKind::Semicolon,
-            TokenKind::RightBrace,
-        ],
-        18,
-        "whole",
-    ),
-    (
-        Start::Statement,
-        "try { } catch (final a b) { }",
-        &[
-            TokenKind::Try,
-            TokenKind::LeftBrace,
-            TokenKind::RightBrace,
-            TokenKind::Catch,
-            TokenKind::LeftParen,
-            TokenKind::Final,
-            TokenKind::Identifier,
-            TokenKind::Identifier,
-            TokenKind::RightParen,
-            TokenKind::LeftBrace,
-            TokenKind::RightBrace,
-        ],
-        11,
-        "whole",
     ),
     (
         Start::Statement,
@@ -520,67 +103,6 @@ const STATEMENTS: [Row; 12] = [
         "refused",
     ),
     (
-        Start::Statement,
-        "{ int[] a = { 1 }; b[] c; d[0] = e; }",
-        &[
-            TokenKind::LeftBrace,
-            TokenKind::Int,
-            TokenKind::LeftBracket,
-            TokenKind::RightBracket,
-            TokenKind::Identifier,
-            TokenKind::Assign,
-            TokenKind::LeftBrace,
-            TokenKind::IntLiteral,
-            TokenKind::RightBrace,
-            TokenKind::Semicolon,
-            TokenKind::Identifier,
-            TokenKind::LeftBracket,
-            TokenKind::RightBracket,
-            TokenKind::Identifier,
-            TokenKind::Semicolon,
-            TokenKind::Identifier,
-            TokenKind::LeftBracket,
-            TokenKind::IntLiteral,
-            TokenKind::RightBracket,
-            TokenKind::Assign,
-            TokenKind::Identifier,
-            TokenKind::Semicolon,
-            TokenKind::RightBrace,
-        ],
-        23,
-        "whole",
-    ),
-];
-
-const SNIPPETS: [Row; 9] = [
-    (
-        Start::Snippet,
-        "import static a.b.*;",
-        &[
-            TokenKind::Import,
-            TokenKind::Static,
-            TokenKind::Identifier,
-            TokenKind::Dot,
-            TokenKind::Identifier,
-            TokenKind::Dot,
-            TokenKind::Star,
-            TokenKind::Semicolon,
-        ],
-        8,
-        "whole",
-    ),
-    (
-        Start::Snippet,
-        "a + b",
-        &[
-            TokenKind::Identifier,
-            TokenKind::Plus,
-            TokenKind::Identifier,
-        ],
-        3,
-        "open",
-    ),
-    (
         Start::Snippet,
         "a b = c;",
         &[
@@ -592,90 +114,6 @@ const SNIPPETS: [Row; 9] = [
         ],
         5,
         "whole",
-    ),
-    (
-        Start::Snippet,
-        "public int f(int a, final b c) throws d, e { return a; }",
-        &[
-            TokenKind::Public,
-            TokenKind::Int,
-            TokenKind::Identifier,
-            TokenKind::LeftParen,
-            TokenKind::Int,
-            TokenKind::Identifier,
-            TokenKind::Comma,
-            TokenKind::Final,
-            TokenKind::Identifier,
-            TokenKind::Identifier,
-            TokenKind::RightParen,
-            TokenKind::Throws,
-            TokenKind::Identifier,
-            TokenKind::Comma,
-            TokenKind::Identifier,
-            TokenKind::LeftBrace,
-            TokenKind::Return,
-            TokenKind::Identifier,
-            TokenKind::Semicolon,
-            TokenKind::RightBrace,
-        ],
-        20,
-        "whole",
-    ),
-    (
-        Start::Snippet,
-        "class a extends b implements c, d { a() { super(); } int e; void f() { } }",
-        &[
-            TokenKind::Class,
-            TokenKind::Identifier,
-            TokenKind::Extends,
-            TokenKind::Identifier,
-            TokenKind::Implements,
-            TokenKind::Identifier,
-            TokenKind::Comma,
-            TokenKind::Identifier,
-            TokenKind::LeftBrace,
-            TokenKind::Identifier,
-            TokenKind::LeftParen,
-            TokenKind::RightParen,
-            TokenKind::LeftBrace,
-            TokenKind::Super,
-            TokenKind::LeftParen,
-            TokenKind::RightParen,
-            TokenKind::Semicolon,
-            TokenKind::RightBrace,
-            TokenKind::Int,
-            TokenKind::Identifier,
-            TokenKind::Semicolon,
-            TokenKind::Void,
-            TokenKind::Identifier,
-            TokenKind::LeftParen,
-            TokenKind::RightParen,
-            TokenKind::LeftBrace,
-            TokenKind::RightBrace,
-            TokenKind::RightBrace,
-        ],
-        28,
-        "whole",
-    ),
-    (
-        Start::Snippet,
-        "interface a extends b { int f(); ; }",
-        &[
-            TokenKind::Interface,
-            TokenKind::Identifier,
-            TokenKind::Extends,
-            TokenKind::Identifier,
-            TokenKind::LeftBrace,
-            TokenKind::Int,
-            TokenKind::Identifier,
-            TokenKind::LeftParen,
-            TokenKind::RightParen,
-            TokenKind::Semicolon,
-            TokenKind::Semicolon,
-            TokenKind::RightBrace,
-        ],
-        10,
-        "refused",
     ),
     (
         Start::Snippet,
@@ -696,19 +134,6 @@ const SNIPPETS: [Row; 9] = [
     ),
     (
         Start::Snippet,
-        "var a = b;",
-        &[
-            TokenKind::Var,
-            TokenKind::Identifier,
-            TokenKind::Assign,
-            TokenKind::Identifier,
-            TokenKind::Semicolon,
-        ],
-        5,
-        "whole",
-    ),
-    (
-        Start::Snippet,
         "void f() {",
         &[
             TokenKind::Void,
@@ -723,16 +148,121 @@ const SNIPPETS: [Row; 9] = [
 ];
 
 #[test]
-fn takes_expressions(rt: HostRuntime) -> Result<(), Fail> {
-    check_all(&rt, rt.alloc(), &EXPRESSIONS)
+fn takes_prefixes(rt: HostRuntime) -> Result<(), Fail> {
+    check_all(&rt, rt.alloc(), &ROWS)
+}
+
+/// A text that isn't whole, its tokens, and the kind that is wanted next.
+type Wanted = (Start, &'static str, &'static [TokenKind], TokenKind);
+
+const WANTED: [Wanted; 10] = [
+    (
+        Start::Expression,
+        "( a + b",
+        &[
+            TokenKind::LeftParen,
+            TokenKind::Identifier,
+            TokenKind::Plus,
+            TokenKind::Identifier,
+        ],
+        TokenKind::RightParen,
+    ),
+    (
+        Start::Expression,
+        "f ( a",
+        &[
+            TokenKind::Identifier,
+            TokenKind::LeftParen,
+            TokenKind::Identifier,
+        ],
+        TokenKind::RightParen,
+    ),
+    (
+        Start::Statement,
+        "a = b",
+        &[
+            TokenKind::Identifier,
+            TokenKind::Assign,
+            TokenKind::Identifier,
+        ],
+        TokenKind::Semicolon,
+    ),
+    (
+        Start::Statement,
+        "{ a = b",
+        &[
+            TokenKind::LeftBrace,
+            TokenKind::Identifier,
+            TokenKind::Assign,
+            TokenKind::Identifier,
+        ],
+        TokenKind::Semicolon,
+    ),
+    (
+        Start::Statement,
+        "if ( a",
+        &[TokenKind::If, TokenKind::LeftParen, TokenKind::Identifier],
+        TokenKind::RightParen,
+    ),
+    (
+        Start::Expression,
+        "a [ b",
+        &[
+            TokenKind::Identifier,
+            TokenKind::LeftBracket,
+            TokenKind::Identifier,
+        ],
+        TokenKind::RightBracket,
+    ),
+    (
+        Start::Snippet,
+        "int a",
+        &[TokenKind::Int, TokenKind::Identifier],
+        TokenKind::Semicolon,
+    ),
+    (
+        Start::Expression,
+        "a +",
+        &[TokenKind::Identifier, TokenKind::Plus],
+        TokenKind::Identifier,
+    ),
+    (
+        Start::Snippet,
+        "int",
+        &[TokenKind::Int],
+        TokenKind::Identifier,
+    ),
+    (
+        Start::Statement,
+        "{",
+        &[TokenKind::LeftBrace],
+        TokenKind::RightBrace,
+    ),
+];
+
+#[test]
+fn wants_what_has_to_come(rt: HostRuntime) -> Result<(), Fail> {
+    for (start, text, kinds, wanted) in &WANTED {
+        let tokens = tokens_of(rt.alloc(), kinds)?;
+        let found = scan(*start, &tokens);
+        assert_eq!(&rt; found.end, End::Open(Some(*wanted)), "behind {:?}", text);
+    }
+    Ok(())
 }
 
 #[test]
-fn takes_statements(rt: HostRuntime) -> Result<(), Fail> {
-    check_all(&rt, rt.alloc(), &STATEMENTS)
-}
-
-#[test]
-fn takes_snippets(rt: HostRuntime) -> Result<(), Fail> {
-    check_all(&rt, rt.alloc(), &SNIPPETS)
+fn looks_as_it_goes(rt: HostRuntime) {
+    let mut recognizer = Recognizer::new(Start::Expression);
+    assert_eq!(&rt; recognizer.looks(TokenKind::Star), Advance::Refused);
+    assert_eq!(&rt; recognizer.looks(TokenKind::Identifier), Advance::Taken);
+    assert_eq!(&rt; recognizer.advance(TokenKind::Identifier), Advance::Taken);
+    assert_eq!(&rt; recognizer.looks(TokenKind::Identifier), Advance::Refused);
+    assert_eq!(&rt; recognizer.looks(TokenKind::Plus), Advance::Taken);
+    assert!(&rt; recognizer.is_whole());
+    for _ in 0..256 {
+        assert_eq!(&rt; recognizer.advance(TokenKind::LeftBracket), Advance::Taken);
+        assert_eq!(&rt; recognizer.advance(TokenKind::Identifier), Advance::Taken);
+    }
+    assert_eq!(&rt; recognizer.looks(TokenKind::LeftBracket), Advance::TooDeep);
+    assert_eq!(&rt; recognizer.looks(TokenKind::RightBracket), Advance::Taken);
 }

@@ -1,5 +1,5 @@
 -- The language of sums: which trees are sums, of which operands, and which of their literals are too big.
-use Rattle.std.specs.Prelude.{ℕ, ℤ, Bool, if◌then◌else◌, List, [], ◌∷◌, ◌++◌, fold, Option, Some, None, option_map}
+use Rattle.std.specs.Prelude.{ℕ, if◌then◌else◌, List, [], ◌∷◌, ◌++◌, fold, Option, Some, None, option_map}
 use Rattle.std.specs.Option.{option_and_then, option_to_list}
 use Rattle.std.specs.Int.{w32, int_wrapping_neg}
 use Rattle.jsh_tree.specs.declared.tree.Tree.{Tree}
@@ -10,7 +10,6 @@ use Rattle.jsh_tree.specs.declared.expression.Literal.{Literal}
 use Rattle.jsh_tree.specs.declared.expression.Literal.TheVariants as literal
 use Rattle.jsh_tree.specs.declared.expression.BinaryOperator.{BinaryOperator}
 use Rattle.jsh_tree.specs.declared.expression.BinaryOperator.TheVariants as binary
-use Rattle.jsh_tree.specs.declared.expression.UnaryOperator.{UnaryOperator}
 use Rattle.jsh_tree.specs.declared.expression.UnaryOperator.TheVariants as unary
 use Rattle.jsh_tree.specs.declared.expression.Expr.{Expr, out-Expr}
 use Rattle.jsh_tree.specs.declared.expression.Expr.TheOpen.{Expr-F, Operation-F}

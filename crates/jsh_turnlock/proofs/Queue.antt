@@ -173,7 +173,7 @@ module _ {T I : Type 0} (history : T → List (ℕ × I)) (numbers : T → ℕ) 
             ap (λ hs. get_elem? hs 0) h.1,
             took s r id m.0 at served idle home h.1 h.2 h.3,
             subst (λ b. MatchBool b (Takes history numbers m (record m.0 { seen = history home.value; count = Some home.made }, (0, Some home) ∷ m.1)) ((record m.0 { seen = history home.value; count = Some home.made }, (0, Some home) ∷ m.1) ≡ m)) (sym is)
-                (home, refl, subst (GoesOn m.0) (sym h.2.0) fits.goes_on, h.2.1 ∙ sym h.2.2),
+                (home, refl, subst (GoesOn m.0) (sym h.2.0) fits.goes_on, h.2.1 ∙ sym h.2.2, λ c mine. subst (λ n. c < n) (sym h.2.2) (fits.numbers c mine)),
           )
       by_test false is = (
         m.0,

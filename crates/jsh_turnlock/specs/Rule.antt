@@ -92,9 +92,9 @@ module _ {T I : Type 0} (history : T → List (ℕ × I)) (numbers : T → ℕ) 
     pub each : (id : ℕ) (v : View I) → get_elem? s.views id ≡ some v → Fits serving drawn made log v
     pub slot : IsKeptIn made log s.views s.homes
 
-  -- the look finds the seat's ticket served, and the seat takes the value, whose history goes on from what the seat has seen
+  -- the look finds the seat's ticket served, and the seat takes the value, whose history goes on from what the seat has seen, and whose count is above the seat's numbers
   abbrev pub Takes : Me (Option (Home T)) (View I) → Me (Option (Home T)) (View I) → Type 0
-  Takes m w = (home : Home T) × (w ≡ (record m.0 { seen = history home.value; count = Some home.made }, (0, Some home) ∷ m.1)) × GoesOn m.0 (history home.value) × (numbers home.value ≡ home.made)
+  Takes m w = (home : Home T) × (w ≡ (record m.0 { seen = history home.value; count = Some home.made }, (0, Some home) ∷ m.1)) × GoesOn m.0 (history home.value) × (numbers home.value ≡ home.made) × ((c : ℕ) → Contains m.0.numbers c → c < home.made)
 
   abbrev pub Looks : Step (Option (Home T)) → Me (Option (Home T)) (View I) → ℕ → Me (Option (Home T)) (View I) → Type 0
   Looks st m found w = MatchBool (found == or_zero m.0.ticket % 18446744073709551616) (Takes m w) (w ≡ m)

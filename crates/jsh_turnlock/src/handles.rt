@@ -1,5 +1,5 @@
 //! The lock, a pass and the turn.
-ghost use Rattle.std.specs.Prelude.{◌≡◌, [], ◌∷◌, None, length};
+ghost use Rattle.std.specs.Prelude.{◌≡◌, ◌<◌, [], ◌∷◌, None, length};
 ghost use Rattle.jsh_turnlock.specs.Rule.{resting, holding};
 
 use crate::chronicle::Chronicle;
@@ -39,6 +39,7 @@ pub struct Held<'a, T: Chronicle> {
     ghost placed: { seat.table_id ≡ lock.now.table.shared.table_id },
     ghost holds: { seat.me ≡ (holding number made seat.me.0, (0, None) ∷ []) },
     ghost length_found: { found ≡ length seat.me.0.seen },
+    ghost numbered: { number < made },
 }
 
 // A shared pass or turn shows no seat, so that a seat that threads may hand on is enough.

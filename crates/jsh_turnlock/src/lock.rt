@@ -1,5 +1,5 @@
 //! Taking the turn, and what passes learn without it.
-ghost use Rattle.std.specs.Prelude.{◌≡◌, ◌≤◌, ◌%◌, ℕ, [], ◌∷◌, ◌++◌, length, Some, None, IfOk};
+ghost use Rattle.std.specs.Prelude.{◌≡◌, ◌≤◌, ◌<◌, ◌%◌, ℕ, [], ◌∷◌, ◌++◌, length, Some, None, IfOk};
 ghost use Rattle.jsh_turnlock.specs.History.{own, StartsWith, longer};
 ghost use Rattle.jsh_turnlock.specs.Rule.{Takes};
 ghost use Rattle.jsh_turnlock.specs.Known.{lock_id, turn_lock, turn_number, turn_made, turn_found, turn_gathered, lock_of, seen_by, gathered_by, IsSamePass, KeepsGathered};
@@ -67,6 +67,7 @@ impl<T: Chronicle> TurnLock<T> {
         ensures gathered { KeepsGathered pass (T.history result.value) }
         ensures found { turn_found result ≡ T.history result.value }
         ensures numbers { T.numbers result.value ≡ turn_made result }
+        ensures number { turn_number result < turn_made result }
     {
         let Pass { number, mut seat } = pass;
         let shared = &self.table.shared;

@@ -28,6 +28,7 @@ impl<T: Chronicle> Held<'_, T> {
         requires { turn_made self.old < 4294967295 }
         ensures pass { (lock_of result ≡ turn_lock self.old) × (result.number ≡ turn_made self.old) × (seen_by result ≡ turn_found self.old) × (gathered_by result ≡ []) }
         ensures counted { turn_made self.new ≡ turn_made self.old + 1 }
+        ensures number { result.number < turn_made self.new }
         ensures same { (turn_lock self.new ≡ turn_lock self.old) × (turn_number self.new ≡ turn_number self.old) × (turn_gathered self.new ≡ turn_gathered self.old) × (turn_found self.new ≡ turn_found self.old) × (self.new.value ≡ self.old.value) }
     {
         let number = self.made;
@@ -42,6 +43,7 @@ impl<T: Chronicle> Held<'_, T> {
         requires numbers { T.numbers self.value ≡ turn_made self }
         ensures same { (lock_of result ≡ turn_lock self.entry) × (result.number ≡ turn_number self.entry) × (gathered_by result ≡ turn_gathered self.entry) }
         ensures seen { seen_by result ≡ T.history self.entry.value }
+        ensures number { result.number < T.numbers self.entry.value }
     {
         let Held {
             lock,

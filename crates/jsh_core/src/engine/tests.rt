@@ -7,8 +7,6 @@ use std::marker::Brand;
 use std::sync::ledger::Blank;
 use std::test::Fail;
 
-fn takes_send<T: Send>(_: &T) {}
-
 /// One client more enters, hands in a line that is no command, and leaves, and the engine is closed.
 /// The answer to the line comes with it.
 fn visited<L: Ledger>(alloc: Global, blank: Blank) -> Result<(Core, Reply), NoMemory>
@@ -47,7 +45,6 @@ fn visited<L: Ledger>(alloc: Global, blank: Blank) -> Result<(Core, Reply), NoMe
 fn a_client_enters_and_leaves(rt: HostRuntime) -> Result<(), Fail> {
     let alloc = rt.alloc();
     let (core, answer) = visited::<Brand>(alloc, Blank::new(1))?;
-    takes_send(&core);
     let ReplyBody::Answered(lines) = &answer.body else {
         return Err(Fail::from("an answer"));
     };

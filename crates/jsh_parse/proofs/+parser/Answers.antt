@@ -1,12 +1,12 @@
-use Rattle.std.proofs.Common.{◌≡◌, suc, ◌+◌, ◌-◌, false, ◌&&◌, [], ◌∷◌, ◌++◌, Some, None, length, drop, sym, ap, ◌∙◌, arith, add-one}
+use Rattle.std.proofs.Common.{◌≡◌, suc, ◌+◌, ◌-◌, false, ◌&&◌, [], ◌∷◌, ◌++◌, Some, None, length, drop, refl, sym, ap, ◌∙◌, arith, add-one}
 use Rattle.std.proofs.lemmas.List.{length_push}
 use Rattle.jsh_tree.specs.declared.expression.Expr.TheVariants as tree
 use Rattle.jsh_tree.specs.declared.expression.Initial.TheVariants as initial
 use Rattle.jsh_parse.specs.Leaves.{is_target, names_type, type_of}
 use Rattle.jsh_parse.specs.Marks.{is_colon, is_right_paren, is_left_paren, is_right_bracket, is_left_bracket, is_left_brace, is_dot}
 use Rattle.jsh_parse.specs.Reader.{and_then, accept, is_cast, brackets, type_read, readers, operations, parts, sizes, listed, initials}
-use Rattle.jsh_parse.specs.Reading.{below, name_read, expr_at, conditional_at, level_at, unary_at, path_at, primary_at, creation_at, arguments_at, sizes_at, braces_at, bracketed_at, listed_at, initials_at, initial_at, named_at, through_super_at, part_at, parts_at, size_at, operation_at, operations_at, branches_at, cast_at, enclosed_at, filled_at, behind_value, applied, stepped, with_sizes}
-use Rattle.jsh_parse.proofs.Onward.{prepend, expr_fails, expr_stays, expr_unfit, conditional_fails, conditional_stays, conditional_chooses, operations_by, operations_more, operations_zero, operation_none, operation_type, operation_operator, unary_none, unary_postfix, unary_cast, path_by, part_none, part_dot_fails, part_field, part_call, part_other, parts_by, parts_more, parts_zero, bracketed_by, primary_none, primary_name, primary_this, primary_super, primary_new, primary_other, primary_enclosed, named_alone, named_call, super_by, creation_object, creation_wrong, creation_sized, creation_filled, filled_open, filled_by, arguments_fail, listed_by, listed_fails, listed_stays, listed_more, listed_zero, sizes_by, sizes_more, sizes_zero, size_none, size_fails, braces_fail, initials_by, initials_fail, initials_wrong, initials_end, initials_more, initials_zero, initial_none, initial_array, initial_value}
+use Rattle.jsh_parse.specs.Reading.{below, name_read, expr_at, conditional_at, level_at, unary_at, path_at, primary_at, creation_at, arguments_at, sizes_at, braces_at, bracketed_at, listed_at, initials_at, initial_at, named_at, through_super_at, part_at, parts_at, size_at, operation_at, operations_at, branches_at, cast_at, enclosed_at, filled_at, behind_value, applied, stepped, tested, with_sizes}
+use Rattle.jsh_parse.proofs.Onward.{prepend, level_fails, expr_fails, expr_stays, expr_unfit, conditional_fails, conditional_stays, conditional_chooses, operations_by, operations_more, operations_zero, operation_none, operation_type, operation_operator, unary_none, unary_postfix, unary_cast, path_by, part_none, part_dot_fails, part_field, part_call, part_other, parts_by, parts_more, parts_zero, bracketed_by, primary_none, primary_name, primary_this, primary_super, primary_new, primary_other, primary_enclosed, named_alone, named_call, super_by, creation_object, creation_wrong, creation_sized, creation_filled, filled_open, filled_by, arguments_fail, listed_by, listed_fails, listed_stays, listed_more, listed_zero, sizes_by, sizes_more, sizes_zero, size_none, size_fails, braces_fail, initials_by, initials_fail, initials_wrong, initials_end, initials_more, initials_zero, initial_none, initial_array, initial_value}
 use Rattle.jsh_parse.proofs.Rooms.{expr_flat, expr_assigns, branches_flat, branches_by, level_zero, level_suc, arguments_flat, arguments_open, arguments_empty, arguments_listed, size_flat, size_by, braces_flat, braces_values, unary_flat, unary_prefixed, cast_flat, cast_by, enclosed_flat, enclosed_by, part_flat, part_index}
 use Rattle.jsh_parse.proofs.Passing.{hands_on, out_of_memory, too_deep, refuses, as_read, next}
 use Rattle.jsh_parse.proofs.Turns.{turn_fails, turn_ends, turn_goes_on, turns_end}
@@ -65,35 +65,35 @@ expression::branches-returns-in_err-no t c = hands_on c.args.input.now.tokens.no
 pub expression::branches-returns : goal.expression::branches-returns
 expression::branches-returns t c = (omega (arith, c.in_ok-yes.ensures.0, c.in_ok-behind.ensures.0, c.in_ok-no.ensures.0), branches_by c.args.input.now.text.now c.args.room (drop c.args.at c.args.input.now.tokens.now) c.in_ok-inner.inner c.in_ok-inner.ensures ∙ simp (c.in_ok-yes.ensures.1, c.in_ok-behind.ensures.1, c.in_ok-no.ensures.1))
 
-pub expression::level-returns-then-height-eq0 : goal.expression::level-returns-then-height-eq0
-expression::level-returns-then-height-eq0 t c = as_read c.args.input.now.tokens.now c.args.at c.args.at (level_at c.args.input.now.text.now c.args.room c.args.height (drop c.args.at c.args.input.now.tokens.now)) (unary_at c.args.input.now.text.now c.args.room (drop c.args.at c.args.input.now.tokens.now)) c.unary.result (omega arith) (level_zero c.args.input.now.text.now c.args.room (drop c.args.at c.args.input.now.tokens.now) c.args.height c.if-height-eq0.true) c.unary.ensures
-
-pub expression::level-returns-in_err-first : goal.expression::level-returns-in_err-first
-expression::level-returns-in_err-first t c = hands_on c.args.input.now.tokens.now c.args.at c.args.at (level_at c.args.input.now.text.now c.args.room c.args.height (drop c.args.at c.args.input.now.tokens.now)) (level_at c.args.input.now.text.now c.args.room (c.args.height - 1) (drop c.args.at c.args.input.now.tokens.now)) c.in_err-first.field-0.0 c.from_residual.result c.from_residual.ensures.1 (λ n. level_suc c.args.input.now.text.now c.args.room (drop c.args.at c.args.input.now.tokens.now) c.args.height (c.args.height - 1) (omega arith) ∙ rw n) c.in_err-first.ensures
+pub expression::level-returns-in_err-tree : goal.expression::level-returns-in_err-tree
+expression::level-returns-in_err-tree t c = hands_on c.args.input.now.tokens.now c.args.at c.args.at (level_at c.args.input.now.text.now c.args.room c.args.height (drop c.args.at c.args.input.now.tokens.now)) (unary_at c.args.input.now.text.now c.args.room (drop c.args.at c.args.input.now.tokens.now)) c.in_err-tree.field-0.0 c.from_residual.result c.from_residual.ensures.1 (λ n. level_fails c.args.input.now.text.now c.args.room (drop c.args.at c.args.input.now.tokens.now) 0 c.args.height (omega arith) (level_zero c.args.input.now.text.now c.args.room (drop c.args.at c.args.input.now.tokens.now) 0 refl ∙ n)) c.in_err-tree.ensures
 
 pub expression::level-returns-in_err-rest : goal.expression::level-returns-in_err-rest
-expression::level-returns-in_err-rest t c = hands_on c.args.input.now.tokens.now c.in_ok-first.behind c.args.at (level_at c.args.input.now.text.now c.args.room c.args.height (drop c.args.at c.args.input.now.tokens.now)) (operations_at c.args.input.now.text.now c.args.room (c.args.height - 1) (drop c.in_ok-first.behind c.args.input.now.tokens.now)) c.in_err-rest.field-0.0 c.from_residual-in_err-rest.result c.from_residual-in_err-rest.ensures.1 (λ n. level_suc c.args.input.now.text.now c.args.room (drop c.args.at c.args.input.now.tokens.now) c.args.height (c.args.height - 1) (omega arith) ∙ simp (c.in_ok-first.ensures.1, n)) c.in_err-rest.ensures
+expression::level-returns-in_err-rest t c = hands_on c.args.input.now.tokens.now c.loop-lower.end c.args.at (level_at c.args.input.now.text.now c.args.room c.args.height (drop c.args.at c.args.input.now.tokens.now)) (operations_at c.args.input.now.text.now c.args.room c.loop-lower.lower (drop c.loop-lower.end c.args.input.now.tokens.now)) c.in_err-rest.field-0.0 c.from_residual-in_err-rest.result c.from_residual-in_err-rest.ensures.1 (λ n. level_fails c.args.input.now.text.now c.args.room (drop c.args.at c.args.input.now.tokens.now) (c.loop-lower.lower + 1) c.args.height (omega arith) (level_suc c.args.input.now.text.now c.args.room (drop c.args.at c.args.input.now.tokens.now) (c.loop-lower.lower + 1) c.loop-lower.lower (omega arith) ∙ simp (c.loop-lower.invariant.reads, n))) c.in_err-rest.ensures
 
-pub expression::level-returns-in_err-with_operations : goal.expression::level-returns-in_err-with_operations
-expression::level-returns-in_err-with_operations t c = out_of_memory c.args.input.now.tokens.now c.args.at (level_at c.args.input.now.text.now c.args.room c.args.height (drop c.args.at c.args.input.now.tokens.now)) c.from_residual-in_err-with_operations.result c.from_residual-in_err-with_operations.ensures.1
+pub expression::level-returns-in_err-tree-2 : goal.expression::level-returns-in_err-tree-2
+expression::level-returns-in_err-tree-2 t c = out_of_memory c.args.input.now.tokens.now c.args.at (level_at c.args.input.now.text.now c.args.room c.args.height (drop c.args.at c.args.input.now.tokens.now)) c.from_residual-in_err-tree-2.result c.from_residual-in_err-tree-2.ensures.1
+
+pub expression::level-loop-lower-init : goal.expression::level-loop-lower-init
+expression::level-loop-lower-init t c = record { forward = omega (arith, c.in_ok-tree.ensures.0); reads = level_zero c.args.input.now.text.now c.args.room (drop c.args.at c.args.input.now.tokens.now) 0 refl ∙ c.in_ok-tree.ensures.1 }
+
+pub expression::level-loop-lower-preserved : goal.expression::level-loop-lower-preserved
+expression::level-loop-lower-preserved t c = record { forward = omega (arith, c.loop-lower.invariant.forward, c.in_ok-rest.ensures.0); reads = level_suc c.args.input.now.text.now c.args.room (drop c.args.at c.args.input.now.tokens.now) (c.loop-lower.lower + 1) c.loop-lower.lower (omega arith) ∙ simp (c.loop-lower.invariant.reads, c.in_ok-rest.ensures.1, c.in_ok-tree-2.ensures) }
 
 pub expression::level-returns : goal.expression::level-returns
-expression::level-returns t c = (omega (arith, c.in_ok-first.ensures.0, c.in_ok-rest.ensures.0), level_suc c.args.input.now.text.now c.args.room (drop c.args.at c.args.input.now.tokens.now) c.args.height (c.args.height - 1) (omega arith) ∙ simp (c.in_ok-first.ensures.1, c.in_ok-rest.ensures.1, c.in_ok-with_operations.ensures))
+expression::level-returns t c = let all : c.args.height ≡ c.loop-lower.lower = omega arith in (c.loop-lower.invariant.forward, ap (λ n. level_at c.args.input.now.text.now c.args.room n (drop c.args.at c.args.input.now.tokens.now)) all ∙ c.loop-lower.invariant.reads)
+
+pub expression::operation-returns-in_default-found : goal.expression::operation-returns-in_default-found
+expression::operation-returns-in_default-found t c = as_read c.args.input.now.tokens.now c.args.at (c.args.at + 1) (operation_at c.args.input.now.text.now c.args.room c.args.height (drop c.args.at c.args.input.now.tokens.now)) (tested c.args.input.now.text.now (drop (c.args.at + 1) c.args.input.now.tokens.now)) c.tested.result (omega arith) (operation_type c.args.input.now.text.now c.args.room c.args.height (drop c.args.at c.args.input.now.tokens.now) (sym (c.in-Some.ensures.value) ∙ ap Some c.in_default-found.is) ∙ ap (tested c.args.input.now.text.now) (next c.args.input.now.tokens.now c.args.at)) c.tested.ensures
 
 pub expression::operation-returns-in_default : goal.expression::operation-returns-in_default
 expression::operation-returns-in_default t c = (omega (arith), operation_none c.args.input.now.text.now c.args.room c.args.height (drop c.args.at c.args.input.now.tokens.now) (sym c.in_default.ensures.value))
 
-pub expression::operation-returns-in_err-target : goal.expression::operation-returns-in_err-target
-expression::operation-returns-in_err-target t c = hands_on c.args.input.now.tokens.now (c.args.at + 1) c.args.at (operation_at c.args.input.now.text.now c.args.room c.args.height (drop c.args.at c.args.input.now.tokens.now)) (type_read c.args.input.now.text.now (drop (c.args.at + 1) c.args.input.now.tokens.now)) c.in_err-target.field-0.0 c.from_residual.result c.from_residual.ensures.1 (λ n. operation_type c.args.input.now.text.now c.args.room c.args.height (drop c.args.at c.args.input.now.tokens.now) (sym (c.in-Some.ensures.value) ∙ ap Some c.in_default-found.is) ∙ simp (next c.args.input.now.tokens.now c.args.at, n)) c.in_err-target.ensures
-
-pub expression::operation-returns-in_default-found : goal.expression::operation-returns-in_default-found
-expression::operation-returns-in_default-found t c = (omega (arith, c.in_ok-target.ensures.0), operation_type c.args.input.now.text.now c.args.room c.args.height (drop c.args.at c.args.input.now.tokens.now) (sym (c.in-Some.ensures.value) ∙ ap Some c.in_default-found.is) ∙ simp (next c.args.input.now.tokens.now c.args.at, c.in_ok-target.ensures.1))
-
 pub expression::operation-returns-in_err-operand : goal.expression::operation-returns-in_err-operand
-expression::operation-returns-in_err-operand t c = hands_on c.args.input.now.tokens.now (c.args.at + 1) c.args.at (operation_at c.args.input.now.text.now c.args.room c.args.height (drop c.args.at c.args.input.now.tokens.now)) (level_at c.args.input.now.text.now c.args.room c.args.height (drop (c.args.at + 1) c.args.input.now.tokens.now)) c.in_err-operand.field-0.0 c.from_residual-in_err-operand.result c.from_residual-in_err-operand.ensures.1 (λ n. operation_operator c.args.input.now.text.now c.args.room c.args.height (drop c.args.at c.args.input.now.tokens.now) c.in-Some-found.operator (sym (c.in-Some.ensures.value) ∙ ap Some c.in-Some-found.is) ∙ simp (next c.args.input.now.tokens.now c.args.at, n)) c.in_err-operand.ensures
+expression::operation-returns-in_err-operand t c = hands_on c.args.input.now.tokens.now (c.args.at + 1) c.args.at (operation_at c.args.input.now.text.now c.args.room c.args.height (drop c.args.at c.args.input.now.tokens.now)) (level_at c.args.input.now.text.now c.args.room c.args.height (drop (c.args.at + 1) c.args.input.now.tokens.now)) c.in_err-operand.field-0.0 c.from_residual.result c.from_residual.ensures.1 (λ n. operation_operator c.args.input.now.text.now c.args.room c.args.height (drop c.args.at c.args.input.now.tokens.now) c.in-Some-found.operator (sym (c.in-Some.ensures.value) ∙ ap Some c.in-Some-found.is) ∙ simp (next c.args.input.now.tokens.now c.args.at, n)) c.in_err-operand.ensures
 
 pub expression::operation-returns : goal.expression::operation-returns
-expression::operation-returns t c = (omega (arith, c.in_ok-operand.ensures.0), operation_operator c.args.input.now.text.now c.args.room c.args.height (drop c.args.at c.args.input.now.tokens.now) c.in-Some-found.operator (sym (c.in-Some.ensures.value) ∙ ap Some c.in-Some-found.is) ∙ simp (next c.args.input.now.tokens.now c.args.at, c.in_ok-operand.ensures.1, c.into_inner-operand.ensures))
+expression::operation-returns t c = (omega (arith, c.in_ok-operand.ensures.0), operation_operator c.args.input.now.text.now c.args.room c.args.height (drop c.args.at c.args.input.now.tokens.now) c.in-Some-found.operator (sym (c.in-Some.ensures.value) ∙ ap Some c.in-Some-found.is) ∙ simp (next c.args.input.now.tokens.now c.args.at, c.in_ok-operand.ensures.1, c.in_ok-joined.ensures))
 
 pub expression::operations-returns-in_err-further : goal.expression::operations-returns-in_err-further
 expression::operations-returns-in_err-further t c = hands_on c.args.input.now.tokens.now c.loop-turn.at c.args.from (operations_at c.args.input.now.text.now c.args.room c.args.height (drop c.args.from c.args.input.now.tokens.now)) (operation_at c.args.input.now.text.now c.args.room c.args.height (drop c.loop-turn.at c.args.input.now.tokens.now)) c.in_err-further.field-0.0 c.from_residual.result c.from_residual.ensures.1 (λ n. (operations_by c.args.input.now.text.now c.args.room c.args.height (drop c.args.from c.args.input.now.tokens.now) ∙ ap (λ n. prepend [] (operations n c.args.input.now.text.now (9 - c.args.height) (level_at c.args.input.now.text.now c.args.room c.args.height) (drop c.args.from c.args.input.now.tokens.now))) (ap suc (sym c.left-most.ensures) ∙ sym (add-one c.left-most.result))) ∙ turn_fails (λ n ts. operations n c.args.input.now.text.now (9 - c.args.height) (level_at c.args.input.now.text.now c.args.room c.args.height) ts) (λ ts. operation_at c.args.input.now.text.now c.args.room c.args.height ts) (λ n ts. operations_more c.args.input.now.text.now c.args.room c.args.height n ts) (prepend [] (operations (c.left-most.result + 1) c.args.input.now.text.now (9 - c.args.height) (level_at c.args.input.now.text.now c.args.room c.args.height) (drop c.args.from c.args.input.now.tokens.now))) ((c.left-most.result + 1) - c.loop-turn._turn) ((c.left-most.result + 1) - (c.loop-turn._turn + 1)) c.loop-turn.rest.items (drop c.loop-turn.at c.args.input.now.tokens.now) (omega arith) c.loop-turn.invariant.reads n) c.in_err-further.ensures
@@ -101,11 +101,11 @@ expression::operations-returns-in_err-further t c = hands_on c.args.input.now.to
 pub expression::operations-returns-in_default : goal.expression::operations-returns-in_default
 expression::operations-returns-in_default t c = (omega (arith, c.loop-turn.invariant.forward, c.in_ok-further.ensures.0), (operations_by c.args.input.now.text.now c.args.room c.args.height (drop c.args.from c.args.input.now.tokens.now) ∙ ap (λ n. prepend [] (operations n c.args.input.now.text.now (9 - c.args.height) (level_at c.args.input.now.text.now c.args.room c.args.height) (drop c.args.from c.args.input.now.tokens.now))) (ap suc (sym c.left-most.ensures) ∙ sym (add-one c.left-most.result))) ∙ turn_ends (λ n ts. operations n c.args.input.now.text.now (9 - c.args.height) (level_at c.args.input.now.text.now c.args.room c.args.height) ts) (λ ts. operation_at c.args.input.now.text.now c.args.room c.args.height ts) (λ n ts. operations_more c.args.input.now.text.now c.args.room c.args.height n ts) (prepend [] (operations (c.left-most.result + 1) c.args.input.now.text.now (9 - c.args.height) (level_at c.args.input.now.text.now c.args.room c.args.height) (drop c.args.from c.args.input.now.tokens.now))) ((c.left-most.result + 1) - c.loop-turn._turn) ((c.left-most.result + 1) - (c.loop-turn._turn + 1)) c.loop-turn.rest.items (drop c.loop-turn.at c.args.input.now.tokens.now) (drop c.in_ok-further.behind c.args.input.now.tokens.now) (omega arith) c.loop-turn.invariant.reads (c.in_ok-further.ensures.1 ∙ ap (λ o. Some (o, drop c.in_ok-further.behind c.args.input.now.tokens.now)) c.in_default.is) ∙ ap (λ items. Some (items, drop c.in_ok-further.behind c.args.input.now.tokens.now)) (sym c.from_vec.ensures))
 
-pub expression::operations-returns-in_err-push : goal.expression::operations-returns-in_err-push
-expression::operations-returns-in_err-push t c = out_of_memory c.args.input.now.tokens.now c.args.from (operations_at c.args.input.now.text.now c.args.room c.args.height (drop c.args.from c.args.input.now.tokens.now)) c.from_residual-in_err-push.result c.from_residual-in_err-push.ensures.1
+pub expression::operations-returns-in_err-add : goal.expression::operations-returns-in_err-add
+expression::operations-returns-in_err-add t c = out_of_memory c.args.input.now.tokens.now c.args.from (operations_at c.args.input.now.text.now c.args.room c.args.height (drop c.args.from c.args.input.now.tokens.now)) c.from_residual-in_err-add.result c.from_residual-in_err-add.ensures.1
 
 pub expression::operations-loop-turn-preserved : goal.expression::operations-loop-turn-preserved
-expression::operations-loop-turn-preserved t c = record { forward = omega (arith, c.loop-turn.invariant.forward, c.in_ok-further.ensures.0); reads = turn_goes_on (λ n ts. operations n c.args.input.now.text.now (9 - c.args.height) (level_at c.args.input.now.text.now c.args.room c.args.height) ts) (λ ts. operation_at c.args.input.now.text.now c.args.room c.args.height ts) (λ n ts. operations_more c.args.input.now.text.now c.args.room c.args.height n ts) (prepend [] (operations (c.left-most.result + 1) c.args.input.now.text.now (9 - c.args.height) (level_at c.args.input.now.text.now c.args.room c.args.height) (drop c.args.from c.args.input.now.tokens.now))) ((c.left-most.result + 1) - c.loop-turn._turn) ((c.left-most.result + 1) - (c.loop-turn._turn + 1)) c.loop-turn.rest.items c.in-Some.further (drop c.loop-turn.at c.args.input.now.tokens.now) (drop c.in_ok-further.behind c.args.input.now.tokens.now) (omega arith) c.loop-turn.invariant.reads (c.in_ok-further.ensures.1 ∙ ap (λ o. Some (o, drop c.in_ok-further.behind c.args.input.now.tokens.now)) c.in-Some.is) ∙ ap (λ items. prepend items (operations ((c.left-most.result + 1) - (c.loop-turn._turn + 1)) c.args.input.now.text.now (9 - c.args.height) (level_at c.args.input.now.text.now c.args.room c.args.height) (drop c.in_ok-further.behind c.args.input.now.tokens.now))) (sym c.in_ok-push.ensures.items) }
+expression::operations-loop-turn-preserved t c = record { forward = omega (arith, c.loop-turn.invariant.forward, c.in_ok-further.ensures.0); reads = turn_goes_on (λ n ts. operations n c.args.input.now.text.now (9 - c.args.height) (level_at c.args.input.now.text.now c.args.room c.args.height) ts) (λ ts. operation_at c.args.input.now.text.now c.args.room c.args.height ts) (λ n ts. operations_more c.args.input.now.text.now c.args.room c.args.height n ts) (prepend [] (operations (c.left-most.result + 1) c.args.input.now.text.now (9 - c.args.height) (level_at c.args.input.now.text.now c.args.room c.args.height) (drop c.args.from c.args.input.now.tokens.now))) ((c.left-most.result + 1) - c.loop-turn._turn) ((c.left-most.result + 1) - (c.loop-turn._turn + 1)) c.loop-turn.rest.items c.in-Some.further (drop c.loop-turn.at c.args.input.now.tokens.now) (drop c.in_ok-further.behind c.args.input.now.tokens.now) (omega arith) c.loop-turn.invariant.reads (c.in_ok-further.ensures.1 ∙ ap (λ o. Some (o, drop c.in_ok-further.behind c.args.input.now.tokens.now)) c.in-Some.is) ∙ ap (λ items. prepend items (operations ((c.left-most.result + 1) - (c.loop-turn._turn + 1)) c.args.input.now.text.now (9 - c.args.height) (level_at c.args.input.now.text.now c.args.room c.args.height) (drop c.in_ok-further.behind c.args.input.now.tokens.now))) (sym c.in_ok-add.ensures) }
 
 pub expression::operations-returns : goal.expression::operations-returns
 expression::operations-returns t c = refuses c.args.input.now.tokens.now c.args.from (operations_at c.args.input.now.text.now c.args.room c.args.height (drop c.args.from c.args.input.now.tokens.now)) c.refuse.result c.refuse.ensures ((operations_by c.args.input.now.text.now c.args.room c.args.height (drop c.args.from c.args.input.now.tokens.now) ∙ ap (λ n. prepend [] (operations n c.args.input.now.text.now (9 - c.args.height) (level_at c.args.input.now.text.now c.args.room c.args.height) (drop c.args.from c.args.input.now.tokens.now))) (ap suc (sym c.left-most.ensures) ∙ sym (add-one c.left-most.result))) ∙ turns_end (λ n ts. operations n c.args.input.now.text.now (9 - c.args.height) (level_at c.args.input.now.text.now c.args.room c.args.height) ts) (λ ts. operations_zero c.args.input.now.text.now (9 - c.args.height) (level_at c.args.input.now.text.now c.args.room c.args.height) ts) (prepend [] (operations (c.left-most.result + 1) c.args.input.now.text.now (9 - c.args.height) (level_at c.args.input.now.text.now c.args.room c.args.height) (drop c.args.from c.args.input.now.tokens.now))) ((c.left-most.result + 1) - c.loop-turn._turn) c.loop-turn.rest.items (drop c.loop-turn.at c.args.input.now.tokens.now) (omega arith) c.loop-turn.invariant.reads)
@@ -116,11 +116,11 @@ path::parts-returns-in_err-further t c = hands_on c.args.input.now.tokens.now c.
 pub path::parts-returns-in_default : goal.path::parts-returns-in_default
 path::parts-returns-in_default t c = (omega (arith, c.loop-turn.invariant.forward, c.in_ok-further.ensures.0), (parts_by c.args.input.now.text.now c.args.room (drop c.args.from c.args.input.now.tokens.now) ∙ ap (λ n. prepend [] (parts n c.args.input.now.text.now (below c.args.input.now.text.now c.args.room) (drop c.args.from c.args.input.now.tokens.now))) (ap suc (sym c.left-most.ensures) ∙ sym (add-one c.left-most.result))) ∙ turn_ends (λ n ts. parts n c.args.input.now.text.now (below c.args.input.now.text.now c.args.room) ts) (λ ts. part_at c.args.input.now.text.now c.args.room ts) (λ n ts. parts_more c.args.input.now.text.now c.args.room n ts) (prepend [] (parts (c.left-most.result + 1) c.args.input.now.text.now (below c.args.input.now.text.now c.args.room) (drop c.args.from c.args.input.now.tokens.now))) ((c.left-most.result + 1) - c.loop-turn._turn) ((c.left-most.result + 1) - (c.loop-turn._turn + 1)) c.loop-turn.parts.items (drop c.loop-turn.at c.args.input.now.tokens.now) (drop c.in_ok-further.behind c.args.input.now.tokens.now) (omega arith) c.loop-turn.invariant.reads (c.in_ok-further.ensures.1 ∙ ap (λ o. Some (o, drop c.in_ok-further.behind c.args.input.now.tokens.now)) c.in_default.is) ∙ ap (λ items. Some (items, drop c.in_ok-further.behind c.args.input.now.tokens.now)) (sym c.from_vec.ensures))
 
-pub path::parts-returns-in_err-push : goal.path::parts-returns-in_err-push
-path::parts-returns-in_err-push t c = out_of_memory c.args.input.now.tokens.now c.args.from (parts_at c.args.input.now.text.now c.args.room (drop c.args.from c.args.input.now.tokens.now)) c.from_residual-in_err-push.result c.from_residual-in_err-push.ensures.1
+pub path::parts-returns-in_err-add : goal.path::parts-returns-in_err-add
+path::parts-returns-in_err-add t c = out_of_memory c.args.input.now.tokens.now c.args.from (parts_at c.args.input.now.text.now c.args.room (drop c.args.from c.args.input.now.tokens.now)) c.from_residual-in_err-add.result c.from_residual-in_err-add.ensures.1
 
 pub path::parts-loop-turn-preserved : goal.path::parts-loop-turn-preserved
-path::parts-loop-turn-preserved t c = record { forward = omega (arith, c.loop-turn.invariant.forward, c.in_ok-further.ensures.0); reads = turn_goes_on (λ n ts. parts n c.args.input.now.text.now (below c.args.input.now.text.now c.args.room) ts) (λ ts. part_at c.args.input.now.text.now c.args.room ts) (λ n ts. parts_more c.args.input.now.text.now c.args.room n ts) (prepend [] (parts (c.left-most.result + 1) c.args.input.now.text.now (below c.args.input.now.text.now c.args.room) (drop c.args.from c.args.input.now.tokens.now))) ((c.left-most.result + 1) - c.loop-turn._turn) ((c.left-most.result + 1) - (c.loop-turn._turn + 1)) c.loop-turn.parts.items c.in-Some.further (drop c.loop-turn.at c.args.input.now.tokens.now) (drop c.in_ok-further.behind c.args.input.now.tokens.now) (omega arith) c.loop-turn.invariant.reads (c.in_ok-further.ensures.1 ∙ ap (λ o. Some (o, drop c.in_ok-further.behind c.args.input.now.tokens.now)) c.in-Some.is) ∙ ap (λ items. prepend items (parts ((c.left-most.result + 1) - (c.loop-turn._turn + 1)) c.args.input.now.text.now (below c.args.input.now.text.now c.args.room) (drop c.in_ok-further.behind c.args.input.now.tokens.now))) (sym c.in_ok-push.ensures.items) }
+path::parts-loop-turn-preserved t c = record { forward = omega (arith, c.loop-turn.invariant.forward, c.in_ok-further.ensures.0); reads = turn_goes_on (λ n ts. parts n c.args.input.now.text.now (below c.args.input.now.text.now c.args.room) ts) (λ ts. part_at c.args.input.now.text.now c.args.room ts) (λ n ts. parts_more c.args.input.now.text.now c.args.room n ts) (prepend [] (parts (c.left-most.result + 1) c.args.input.now.text.now (below c.args.input.now.text.now c.args.room) (drop c.args.from c.args.input.now.tokens.now))) ((c.left-most.result + 1) - c.loop-turn._turn) ((c.left-most.result + 1) - (c.loop-turn._turn + 1)) c.loop-turn.parts.items c.in-Some.further (drop c.loop-turn.at c.args.input.now.tokens.now) (drop c.in_ok-further.behind c.args.input.now.tokens.now) (omega arith) c.loop-turn.invariant.reads (c.in_ok-further.ensures.1 ∙ ap (λ o. Some (o, drop c.in_ok-further.behind c.args.input.now.tokens.now)) c.in-Some.is) ∙ ap (λ items. prepend items (parts ((c.left-most.result + 1) - (c.loop-turn._turn + 1)) c.args.input.now.text.now (below c.args.input.now.text.now c.args.room) (drop c.in_ok-further.behind c.args.input.now.tokens.now))) (sym c.in_ok-add.ensures) }
 
 pub path::parts-returns : goal.path::parts-returns
 path::parts-returns t c = refuses c.args.input.now.tokens.now c.args.from (parts_at c.args.input.now.text.now c.args.room (drop c.args.from c.args.input.now.tokens.now)) c.refuse.result c.refuse.ensures ((parts_by c.args.input.now.text.now c.args.room (drop c.args.from c.args.input.now.tokens.now) ∙ ap (λ n. prepend [] (parts n c.args.input.now.text.now (below c.args.input.now.text.now c.args.room) (drop c.args.from c.args.input.now.tokens.now))) (ap suc (sym c.left-most.ensures) ∙ sym (add-one c.left-most.result))) ∙ turns_end (λ n ts. parts n c.args.input.now.text.now (below c.args.input.now.text.now c.args.room) ts) (λ ts. parts_zero c.args.input.now.text.now c.args.room ts) (prepend [] (parts (c.left-most.result + 1) c.args.input.now.text.now (below c.args.input.now.text.now c.args.room) (drop c.args.from c.args.input.now.tokens.now))) ((c.left-most.result + 1) - c.loop-turn._turn) c.loop-turn.parts.items (drop c.loop-turn.at c.args.input.now.tokens.now) (omega arith) c.loop-turn.invariant.reads)
@@ -131,11 +131,11 @@ list::sizes-returns-in_err-further-clause-value t c = hands_on c.args.input.now.
 pub list::sizes-returns-in_default-clause-value : goal.list::sizes-returns-in_default-clause-value
 list::sizes-returns-in_default-clause-value t c = (omega (arith, c.loop-turn.invariant.forward, c.in_ok-further.ensures.value.0), (sizes_by c.args.input.now.text.now c.args.room (drop c.args.from c.args.input.now.tokens.now) ∙ ap (λ n. prepend [] (sizes n (below c.args.input.now.text.now c.args.room) (drop c.args.from c.args.input.now.tokens.now))) (ap suc (sym c.left-most.ensures) ∙ sym (add-one c.left-most.result))) ∙ turn_ends (λ n ts. sizes n (below c.args.input.now.text.now c.args.room) ts) (λ ts. size_at c.args.input.now.text.now c.args.room ts) (λ n ts. sizes_more c.args.input.now.text.now c.args.room ts n) (prepend [] (sizes (c.left-most.result + 1) (below c.args.input.now.text.now c.args.room) (drop c.args.from c.args.input.now.tokens.now))) ((c.left-most.result + 1) - c.loop-turn._turn) ((c.left-most.result + 1) - (c.loop-turn._turn + 1)) c.loop-turn.sizes.items (drop c.loop-turn.at c.args.input.now.tokens.now) (drop c.in_ok-further.behind c.args.input.now.tokens.now) (omega arith) c.loop-turn.invariant.reads (c.in_ok-further.ensures.value.1 ∙ ap (λ o. Some (o, drop c.in_ok-further.behind c.args.input.now.tokens.now)) c.in_default.is) ∙ ap (λ items. Some (items, drop c.in_ok-further.behind c.args.input.now.tokens.now)) (sym c.from_vec.ensures))
 
-pub list::sizes-returns-in_err-push-clause-value : goal.list::sizes-returns-in_err-push-clause-value
-list::sizes-returns-in_err-push-clause-value t c = out_of_memory c.args.input.now.tokens.now c.args.from (sizes_at c.args.input.now.text.now c.args.room (drop c.args.from c.args.input.now.tokens.now)) c.from_residual-in_err-push.result c.from_residual-in_err-push.ensures.1
+pub list::sizes-returns-in_err-add-clause-value : goal.list::sizes-returns-in_err-add-clause-value
+list::sizes-returns-in_err-add-clause-value t c = out_of_memory c.args.input.now.tokens.now c.args.from (sizes_at c.args.input.now.text.now c.args.room (drop c.args.from c.args.input.now.tokens.now)) c.from_residual-in_err-add.result c.from_residual-in_err-add.ensures.1
 
 pub list::sizes-loop-turn-preserved : goal.list::sizes-loop-turn-preserved
-list::sizes-loop-turn-preserved t c = let pushed = ap length c.in_ok-push.ensures.items ∙ length_push c.loop-turn.sizes.items c.in-Some.further in let ahead = rw c.in-Some.is at c.in_ok-further.ensures.forward in let inside = rw c.in-Some.is at c.in_ok-further.ensures.inside in record { forward = omega (arith, pushed, ahead, c.loop-turn.invariant.forward); few = omega (arith, pushed, inside, c.loop-turn.invariant.forward); reads = turn_goes_on (λ n ts. sizes n (below c.args.input.now.text.now c.args.room) ts) (λ ts. size_at c.args.input.now.text.now c.args.room ts) (λ n ts. sizes_more c.args.input.now.text.now c.args.room ts n) (prepend [] (sizes (c.left-most.result + 1) (below c.args.input.now.text.now c.args.room) (drop c.args.from c.args.input.now.tokens.now))) ((c.left-most.result + 1) - c.loop-turn._turn) ((c.left-most.result + 1) - (c.loop-turn._turn + 1)) c.loop-turn.sizes.items c.in-Some.further (drop c.loop-turn.at c.args.input.now.tokens.now) (drop c.in_ok-further.behind c.args.input.now.tokens.now) (omega arith) c.loop-turn.invariant.reads (c.in_ok-further.ensures.value.1 ∙ ap (λ o. Some (o, drop c.in_ok-further.behind c.args.input.now.tokens.now)) c.in-Some.is) ∙ ap (λ items. prepend items (sizes ((c.left-most.result + 1) - (c.loop-turn._turn + 1)) (below c.args.input.now.text.now c.args.room) (drop c.in_ok-further.behind c.args.input.now.tokens.now))) (sym c.in_ok-push.ensures.items) }
+list::sizes-loop-turn-preserved t c = let pushed = ap length c.in_ok-add.ensures ∙ length_push c.loop-turn.sizes.items c.in-Some.further in let ahead = rw c.in-Some.is at c.in_ok-further.ensures.forward in let inside = rw c.in-Some.is at c.in_ok-further.ensures.inside in record { forward = omega (arith, pushed, ahead, c.loop-turn.invariant.forward); few = omega (arith, pushed, inside, c.loop-turn.invariant.forward); reads = turn_goes_on (λ n ts. sizes n (below c.args.input.now.text.now c.args.room) ts) (λ ts. size_at c.args.input.now.text.now c.args.room ts) (λ n ts. sizes_more c.args.input.now.text.now c.args.room ts n) (prepend [] (sizes (c.left-most.result + 1) (below c.args.input.now.text.now c.args.room) (drop c.args.from c.args.input.now.tokens.now))) ((c.left-most.result + 1) - c.loop-turn._turn) ((c.left-most.result + 1) - (c.loop-turn._turn + 1)) c.loop-turn.sizes.items c.in-Some.further (drop c.loop-turn.at c.args.input.now.tokens.now) (drop c.in_ok-further.behind c.args.input.now.tokens.now) (omega arith) c.loop-turn.invariant.reads (c.in_ok-further.ensures.value.1 ∙ ap (λ o. Some (o, drop c.in_ok-further.behind c.args.input.now.tokens.now)) c.in-Some.is) ∙ ap (λ items. prepend items (sizes ((c.left-most.result + 1) - (c.loop-turn._turn + 1)) (below c.args.input.now.text.now c.args.room) (drop c.in_ok-further.behind c.args.input.now.tokens.now))) (sym c.in_ok-add.ensures) }
 
 pub list::sizes-returns-clause-value : goal.list::sizes-returns-clause-value
 list::sizes-returns-clause-value t c = refuses c.args.input.now.tokens.now c.args.from (sizes_at c.args.input.now.text.now c.args.room (drop c.args.from c.args.input.now.tokens.now)) c.refuse.result c.refuse.ensures ((sizes_by c.args.input.now.text.now c.args.room (drop c.args.from c.args.input.now.tokens.now) ∙ ap (λ n. prepend [] (sizes n (below c.args.input.now.text.now c.args.room) (drop c.args.from c.args.input.now.tokens.now))) (ap suc (sym c.left-most.ensures) ∙ sym (add-one c.left-most.result))) ∙ turns_end (λ n ts. sizes n (below c.args.input.now.text.now c.args.room) ts) (λ ts. sizes_zero c.args.input.now.text.now c.args.room ts) (prepend [] (sizes (c.left-most.result + 1) (below c.args.input.now.text.now c.args.room) (drop c.args.from c.args.input.now.tokens.now))) ((c.left-most.result + 1) - c.loop-turn._turn) c.loop-turn.sizes.items (drop c.loop-turn.at c.args.input.now.tokens.now) (omega arith) c.loop-turn.invariant.reads)
@@ -143,14 +143,14 @@ list::sizes-returns-clause-value t c = refuses c.args.input.now.tokens.now c.arg
 pub list::listed-returns-in_err-item : goal.list::listed-returns-in_err-item
 list::listed-returns-in_err-item t c = hands_on c.args.input.now.tokens.now c.loop-turn.at c.args.from (listed_at c.args.input.now.text.now c.args.room (drop c.args.from c.args.input.now.tokens.now)) (expr_at c.args.input.now.text.now c.args.room (drop c.loop-turn.at c.args.input.now.tokens.now)) c.in_err-item.field-0.0 c.from_residual.result c.from_residual.ensures.1 (λ n. (listed_by c.args.input.now.text.now c.args.room (drop c.args.from c.args.input.now.tokens.now) ∙ ap (λ n. prepend [] (listed n (readers c.args.input.now.text.now c.args.room) (drop c.args.from c.args.input.now.tokens.now))) (ap suc (sym c.left-most.ensures) ∙ sym (add-one c.left-most.result)) ∙ c.loop-turn.invariant.reads ∙ ap (λ n. prepend c.loop-turn.items.items (listed n (readers c.args.input.now.text.now c.args.room) (drop c.loop-turn.at c.args.input.now.tokens.now))) (left_turn (c.left-most.result + 1) c.loop-turn._turn (omega arith))) ∙ listed_fails c.args.input.now.text.now c.args.room c.loop-turn.items.items ((c.left-most.result + 1) - (c.loop-turn._turn + 1)) (drop c.loop-turn.at c.args.input.now.tokens.now) n) c.in_err-item.ensures
 
-pub list::listed-returns-in_err-push : goal.list::listed-returns-in_err-push
-list::listed-returns-in_err-push t c = out_of_memory c.args.input.now.tokens.now c.args.from (listed_at c.args.input.now.text.now c.args.room (drop c.args.from c.args.input.now.tokens.now)) c.from_residual-in_err-push.result c.from_residual-in_err-push.ensures.1
+pub list::listed-returns-in_err-add : goal.list::listed-returns-in_err-add
+list::listed-returns-in_err-add t c = out_of_memory c.args.input.now.tokens.now c.args.from (listed_at c.args.input.now.text.now c.args.room (drop c.args.from c.args.input.now.tokens.now)) c.from_residual-in_err-add.result c.from_residual-in_err-add.ensures.1
 
 pub list::listed-returns-then-not-sees_comma : goal.list::listed-returns-then-not-sees_comma
-list::listed-returns-then-not-sees_comma t c = (omega (arith, c.loop-turn.invariant.forward, c.in_ok-item.ensures.0), (listed_by c.args.input.now.text.now c.args.room (drop c.args.from c.args.input.now.tokens.now) ∙ ap (λ n. prepend [] (listed n (readers c.args.input.now.text.now c.args.room) (drop c.args.from c.args.input.now.tokens.now))) (ap suc (sym c.left-most.ensures) ∙ sym (add-one c.left-most.result)) ∙ c.loop-turn.invariant.reads ∙ ap (λ n. prepend c.loop-turn.items.items (listed n (readers c.args.input.now.text.now c.args.room) (drop c.loop-turn.at c.args.input.now.tokens.now))) (left_turn (c.left-most.result + 1) c.loop-turn._turn (omega arith))) ∙ listed_stays c.args.input.now.text.now c.args.room c.loop-turn.items.items ((c.left-most.result + 1) - (c.loop-turn._turn + 1)) (drop c.loop-turn.at c.args.input.now.tokens.now) c.in_ok-item.item (drop c.in_ok-item.behind c.args.input.now.tokens.now) c.in_ok-item.ensures.1 (sym c.if-not-sees_comma.ensures.value) ∙ ap (λ items. Some (items, drop c.in_ok-item.behind c.args.input.now.tokens.now)) (sym (c.from_vec.ensures ∙ c.in_ok-push.ensures.items ∙ ap (λ e. c.loop-turn.items.items ++ e ∷ []) c.into_inner.ensures)))
+list::listed-returns-then-not-sees_comma t c = (omega (arith, c.loop-turn.invariant.forward, c.in_ok-item.ensures.0), (listed_by c.args.input.now.text.now c.args.room (drop c.args.from c.args.input.now.tokens.now) ∙ ap (λ n. prepend [] (listed n (readers c.args.input.now.text.now c.args.room) (drop c.args.from c.args.input.now.tokens.now))) (ap suc (sym c.left-most.ensures) ∙ sym (add-one c.left-most.result)) ∙ c.loop-turn.invariant.reads ∙ ap (λ n. prepend c.loop-turn.items.items (listed n (readers c.args.input.now.text.now c.args.room) (drop c.loop-turn.at c.args.input.now.tokens.now))) (left_turn (c.left-most.result + 1) c.loop-turn._turn (omega arith))) ∙ listed_stays c.args.input.now.text.now c.args.room c.loop-turn.items.items ((c.left-most.result + 1) - (c.loop-turn._turn + 1)) (drop c.loop-turn.at c.args.input.now.tokens.now) c.in_ok-item.item (drop c.in_ok-item.behind c.args.input.now.tokens.now) c.in_ok-item.ensures.1 (sym c.if-not-sees_comma.ensures.value) ∙ ap (λ items. Some (items, drop c.in_ok-item.behind c.args.input.now.tokens.now)) (sym (c.from_vec.ensures ∙ c.in_ok-add.ensures)))
 
 pub list::listed-loop-turn-preserved : goal.list::listed-loop-turn-preserved
-list::listed-loop-turn-preserved t c = record { forward = omega (arith, c.loop-turn.invariant.forward, c.in_ok-item.ensures.0); reads = c.loop-turn.invariant.reads ∙ ap (λ n. prepend c.loop-turn.items.items (listed n (readers c.args.input.now.text.now c.args.room) (drop c.loop-turn.at c.args.input.now.tokens.now))) (left_turn (c.left-most.result + 1) c.loop-turn._turn (omega arith)) ∙ listed_more c.args.input.now.text.now c.args.room c.loop-turn.items.items ((c.left-most.result + 1) - (c.loop-turn._turn + 1)) (drop c.loop-turn.at c.args.input.now.tokens.now) c.in_ok-item.item (drop c.in_ok-item.behind c.args.input.now.tokens.now) c.in_ok-item.ensures.1 (sym c.if-not-sees_comma.ensures.value) ∙ ap (λ ts. prepend (c.loop-turn.items.items ++ c.in_ok-item.item ∷ []) (listed ((c.left-most.result + 1) - (c.loop-turn._turn + 1)) (readers c.args.input.now.text.now c.args.room) ts)) (next c.args.input.now.tokens.now c.in_ok-item.behind) ∙ ap (λ items. prepend items (listed ((c.left-most.result + 1) - (c.loop-turn._turn + 1)) (readers c.args.input.now.text.now c.args.room) (drop (c.in_ok-item.behind + 1) c.args.input.now.tokens.now))) (sym (c.in_ok-push.ensures.items ∙ ap (λ e. c.loop-turn.items.items ++ e ∷ []) c.into_inner.ensures)) }
+list::listed-loop-turn-preserved t c = record { forward = omega (arith, c.loop-turn.invariant.forward, c.in_ok-item.ensures.0); reads = c.loop-turn.invariant.reads ∙ ap (λ n. prepend c.loop-turn.items.items (listed n (readers c.args.input.now.text.now c.args.room) (drop c.loop-turn.at c.args.input.now.tokens.now))) (left_turn (c.left-most.result + 1) c.loop-turn._turn (omega arith)) ∙ listed_more c.args.input.now.text.now c.args.room c.loop-turn.items.items ((c.left-most.result + 1) - (c.loop-turn._turn + 1)) (drop c.loop-turn.at c.args.input.now.tokens.now) c.in_ok-item.item (drop c.in_ok-item.behind c.args.input.now.tokens.now) c.in_ok-item.ensures.1 (sym c.if-not-sees_comma.ensures.value) ∙ ap (λ ts. prepend (c.loop-turn.items.items ++ c.in_ok-item.item ∷ []) (listed ((c.left-most.result + 1) - (c.loop-turn._turn + 1)) (readers c.args.input.now.text.now c.args.room) ts)) (next c.args.input.now.tokens.now c.in_ok-item.behind) ∙ ap (λ items. prepend items (listed ((c.left-most.result + 1) - (c.loop-turn._turn + 1)) (readers c.args.input.now.text.now c.args.room) (drop (c.in_ok-item.behind + 1) c.args.input.now.tokens.now))) (sym c.in_ok-add.ensures) }
 
 pub list::listed-returns : goal.list::listed-returns
 list::listed-returns t c = refuses c.args.input.now.tokens.now c.args.from (listed_at c.args.input.now.text.now c.args.room (drop c.args.from c.args.input.now.tokens.now)) c.refuse.result c.refuse.ensures ((listed_by c.args.input.now.text.now c.args.room (drop c.args.from c.args.input.now.tokens.now) ∙ ap (λ n. prepend [] (listed n (readers c.args.input.now.text.now c.args.room) (drop c.args.from c.args.input.now.tokens.now))) (ap suc (sym c.left-most.ensures) ∙ sym (add-one c.left-most.result))) ∙ turns_end (λ n ts. listed n (readers c.args.input.now.text.now c.args.room) ts) (λ ts. listed_zero (readers c.args.input.now.text.now c.args.room) ts) (prepend [] (listed (c.left-most.result + 1) (readers c.args.input.now.text.now c.args.room) (drop c.args.from c.args.input.now.tokens.now))) ((c.left-most.result + 1) - c.loop-turn._turn) c.loop-turn.items.items (drop c.loop-turn.at c.args.input.now.tokens.now) (omega arith) c.loop-turn.invariant.reads)
@@ -158,17 +158,17 @@ list::listed-returns t c = refuses c.args.input.now.tokens.now c.args.from (list
 pub list::initials-returns-in_err-value : goal.list::initials-returns-in_err-value
 list::initials-returns-in_err-value t c = hands_on c.args.input.now.tokens.now c.loop-turn.at c.args.from (initials_at c.args.input.now.text.now c.args.room (drop c.args.from c.args.input.now.tokens.now)) (initial_at c.args.input.now.text.now c.args.room (drop c.loop-turn.at c.args.input.now.tokens.now)) c.in_err-value.field-0.0 c.from_residual.result c.from_residual.ensures.1 (λ n. (initials_by c.args.input.now.text.now c.args.room (drop c.args.from c.args.input.now.tokens.now) ∙ ap (λ n. prepend [] (initials n (readers c.args.input.now.text.now c.args.room) (drop c.args.from c.args.input.now.tokens.now))) (ap suc (sym c.left-most.ensures) ∙ sym (add-one c.left-most.result)) ∙ c.loop-turn.invariant.reads ∙ ap (λ n. prepend c.loop-turn.values.items (initials n (readers c.args.input.now.text.now c.args.room) (drop c.loop-turn.at c.args.input.now.tokens.now))) (left_turn (c.left-most.result + 1) c.loop-turn._turn (omega arith))) ∙ initials_fail c.args.input.now.text.now c.args.room c.loop-turn.values.items ((c.left-most.result + 1) - (c.loop-turn._turn + 1)) (drop c.loop-turn.at c.args.input.now.tokens.now) n) c.in_err-value.ensures
 
-pub list::initials-returns-in_err-push : goal.list::initials-returns-in_err-push
-list::initials-returns-in_err-push t c = out_of_memory c.args.input.now.tokens.now c.args.from (initials_at c.args.input.now.text.now c.args.room (drop c.args.from c.args.input.now.tokens.now)) c.from_residual-in_err-push.result c.from_residual-in_err-push.ensures.1
+pub list::initials-returns-in_err-add : goal.list::initials-returns-in_err-add
+list::initials-returns-in_err-add t c = out_of_memory c.args.input.now.tokens.now c.args.from (initials_at c.args.input.now.text.now c.args.room (drop c.args.from c.args.input.now.tokens.now)) c.from_residual-in_err-add.result c.from_residual-in_err-add.ensures.1
 
 pub list::initials-returns-in_err-goes_on : goal.list::initials-returns-in_err-goes_on
 list::initials-returns-in_err-goes_on t c = hands_on c.args.input.now.tokens.now c.in_ok-value.behind c.args.from (initials_at c.args.input.now.text.now c.args.room (drop c.args.from c.args.input.now.tokens.now)) (behind_value (drop c.in_ok-value.behind c.args.input.now.tokens.now)) c.in_err-goes_on.field-0.0 c.from_residual-in_err-goes_on.result c.from_residual-in_err-goes_on.ensures.1 (λ n. (initials_by c.args.input.now.text.now c.args.room (drop c.args.from c.args.input.now.tokens.now) ∙ ap (λ n. prepend [] (initials n (readers c.args.input.now.text.now c.args.room) (drop c.args.from c.args.input.now.tokens.now))) (ap suc (sym c.left-most.ensures) ∙ sym (add-one c.left-most.result)) ∙ c.loop-turn.invariant.reads ∙ ap (λ n. prepend c.loop-turn.values.items (initials n (readers c.args.input.now.text.now c.args.room) (drop c.loop-turn.at c.args.input.now.tokens.now))) (left_turn (c.left-most.result + 1) c.loop-turn._turn (omega arith))) ∙ initials_wrong c.args.input.now.text.now c.args.room c.loop-turn.values.items ((c.left-most.result + 1) - (c.loop-turn._turn + 1)) (drop c.loop-turn.at c.args.input.now.tokens.now) c.in_ok-value.value (drop c.in_ok-value.behind c.args.input.now.tokens.now) c.in_ok-value.ensures.1 n) c.in_err-goes_on.ensures
 
 pub list::initials-returns-then-not-goes_on : goal.list::initials-returns-then-not-goes_on
-list::initials-returns-then-not-goes_on t c = (omega (arith, c.loop-turn.invariant.forward, c.in_ok-value.ensures.0, c.in_ok-goes_on.ensures.0), (initials_by c.args.input.now.text.now c.args.room (drop c.args.from c.args.input.now.tokens.now) ∙ ap (λ n. prepend [] (initials n (readers c.args.input.now.text.now c.args.room) (drop c.args.from c.args.input.now.tokens.now))) (ap suc (sym c.left-most.ensures) ∙ sym (add-one c.left-most.result)) ∙ c.loop-turn.invariant.reads ∙ ap (λ n. prepend c.loop-turn.values.items (initials n (readers c.args.input.now.text.now c.args.room) (drop c.loop-turn.at c.args.input.now.tokens.now))) (left_turn (c.left-most.result + 1) c.loop-turn._turn (omega arith))) ∙ initials_end c.args.input.now.text.now c.args.room c.loop-turn.values.items ((c.left-most.result + 1) - (c.loop-turn._turn + 1)) (drop c.loop-turn.at c.args.input.now.tokens.now) c.in_ok-value.value (drop c.in_ok-value.behind c.args.input.now.tokens.now) (drop c.in_ok-goes_on.next c.args.input.now.tokens.now) c.in_ok-value.ensures.1 (c.in_ok-goes_on.ensures.1 ∙ ap (λ o. Some (o, drop c.in_ok-goes_on.next c.args.input.now.tokens.now)) c.if-not-goes_on.true) ∙ ap (λ items. Some (items, drop c.in_ok-goes_on.next c.args.input.now.tokens.now)) (sym (c.from_vec.ensures ∙ c.in_ok-push.ensures.items)))
+list::initials-returns-then-not-goes_on t c = (omega (arith, c.loop-turn.invariant.forward, c.in_ok-value.ensures.0, c.in_ok-goes_on.ensures.0), (initials_by c.args.input.now.text.now c.args.room (drop c.args.from c.args.input.now.tokens.now) ∙ ap (λ n. prepend [] (initials n (readers c.args.input.now.text.now c.args.room) (drop c.args.from c.args.input.now.tokens.now))) (ap suc (sym c.left-most.ensures) ∙ sym (add-one c.left-most.result)) ∙ c.loop-turn.invariant.reads ∙ ap (λ n. prepend c.loop-turn.values.items (initials n (readers c.args.input.now.text.now c.args.room) (drop c.loop-turn.at c.args.input.now.tokens.now))) (left_turn (c.left-most.result + 1) c.loop-turn._turn (omega arith))) ∙ initials_end c.args.input.now.text.now c.args.room c.loop-turn.values.items ((c.left-most.result + 1) - (c.loop-turn._turn + 1)) (drop c.loop-turn.at c.args.input.now.tokens.now) c.in_ok-value.value (drop c.in_ok-value.behind c.args.input.now.tokens.now) (drop c.in_ok-goes_on.next c.args.input.now.tokens.now) c.in_ok-value.ensures.1 (c.in_ok-goes_on.ensures.1 ∙ ap (λ o. Some (o, drop c.in_ok-goes_on.next c.args.input.now.tokens.now)) c.if-not-goes_on.true) ∙ ap (λ items. Some (items, drop c.in_ok-goes_on.next c.args.input.now.tokens.now)) (sym (c.from_vec.ensures ∙ c.in_ok-add.ensures)))
 
 pub list::initials-loop-turn-preserved : goal.list::initials-loop-turn-preserved
-list::initials-loop-turn-preserved t c = record { forward = omega (arith, c.loop-turn.invariant.forward, c.in_ok-value.ensures.0, c.in_ok-goes_on.ensures.0); reads = c.loop-turn.invariant.reads ∙ ap (λ n. prepend c.loop-turn.values.items (initials n (readers c.args.input.now.text.now c.args.room) (drop c.loop-turn.at c.args.input.now.tokens.now))) (left_turn (c.left-most.result + 1) c.loop-turn._turn (omega arith)) ∙ initials_more c.args.input.now.text.now c.args.room c.loop-turn.values.items ((c.left-most.result + 1) - (c.loop-turn._turn + 1)) (drop c.loop-turn.at c.args.input.now.tokens.now) c.in_ok-value.value (drop c.in_ok-value.behind c.args.input.now.tokens.now) (drop c.in_ok-goes_on.next c.args.input.now.tokens.now) c.in_ok-value.ensures.1 (c.in_ok-goes_on.ensures.1 ∙ ap (λ o. Some (o, drop c.in_ok-goes_on.next c.args.input.now.tokens.now)) c.if-not-goes_on.false) ∙ ap (λ items. prepend items (initials ((c.left-most.result + 1) - (c.loop-turn._turn + 1)) (readers c.args.input.now.text.now c.args.room) (drop c.in_ok-goes_on.next c.args.input.now.tokens.now))) (sym c.in_ok-push.ensures.items) }
+list::initials-loop-turn-preserved t c = record { forward = omega (arith, c.loop-turn.invariant.forward, c.in_ok-value.ensures.0, c.in_ok-goes_on.ensures.0); reads = c.loop-turn.invariant.reads ∙ ap (λ n. prepend c.loop-turn.values.items (initials n (readers c.args.input.now.text.now c.args.room) (drop c.loop-turn.at c.args.input.now.tokens.now))) (left_turn (c.left-most.result + 1) c.loop-turn._turn (omega arith)) ∙ initials_more c.args.input.now.text.now c.args.room c.loop-turn.values.items ((c.left-most.result + 1) - (c.loop-turn._turn + 1)) (drop c.loop-turn.at c.args.input.now.tokens.now) c.in_ok-value.value (drop c.in_ok-value.behind c.args.input.now.tokens.now) (drop c.in_ok-goes_on.next c.args.input.now.tokens.now) c.in_ok-value.ensures.1 (c.in_ok-goes_on.ensures.1 ∙ ap (λ o. Some (o, drop c.in_ok-goes_on.next c.args.input.now.tokens.now)) c.if-not-goes_on.false) ∙ ap (λ items. prepend items (initials ((c.left-most.result + 1) - (c.loop-turn._turn + 1)) (readers c.args.input.now.text.now c.args.room) (drop c.in_ok-goes_on.next c.args.input.now.tokens.now))) (sym c.in_ok-add.ensures) }
 
 pub list::initials-returns : goal.list::initials-returns
 list::initials-returns t c = refuses c.args.input.now.tokens.now c.args.from (initials_at c.args.input.now.text.now c.args.room (drop c.args.from c.args.input.now.tokens.now)) c.refuse.result c.refuse.ensures ((initials_by c.args.input.now.text.now c.args.room (drop c.args.from c.args.input.now.tokens.now) ∙ ap (λ n. prepend [] (initials n (readers c.args.input.now.text.now c.args.room) (drop c.args.from c.args.input.now.tokens.now))) (ap suc (sym c.left-most.ensures) ∙ sym (add-one c.left-most.result))) ∙ turns_end (λ n ts. initials n (readers c.args.input.now.text.now c.args.room) ts) (λ ts. initials_zero (readers c.args.input.now.text.now c.args.room) ts) (prepend [] (initials (c.left-most.result + 1) (readers c.args.input.now.text.now c.args.room) (drop c.args.from c.args.input.now.tokens.now))) ((c.left-most.result + 1) - c.loop-turn._turn) c.loop-turn.values.items (drop c.loop-turn.at c.args.input.now.tokens.now) (omega arith) c.loop-turn.invariant.reads)
@@ -231,13 +231,13 @@ pub path::part-returns-in_err-name : goal.path::part-returns-in_err-name
 path::part-returns-in_err-name t c = hands_on c.args.input.now.tokens.now (c.args.at + 1) c.args.at (part_at c.args.input.now.text.now c.args.room (drop c.args.at c.args.input.now.tokens.now)) (name_read c.args.input.now.text.now (drop (c.args.at + 1) c.args.input.now.tokens.now)) c.in_err-name.field-0.0 c.from_residual.result c.from_residual.ensures.1 (λ n. ap (part_at c.args.input.now.text.now c.args.room) c.in-Some.ensures.found ∙ part_dot_fails c.args.input.now.text.now c.args.room c.in-Some.token (drop (c.args.at + 1) c.args.input.now.tokens.now) (sym c.if-is_dot.ensures) n) c.in_err-name.ensures
 
 pub path::part-returns-then-not-sees_left_paren : goal.path::part-returns-then-not-sees_left_paren
-path::part-returns-then-not-sees_left_paren t c = (omega (arith, c.in_ok-name.ensures.0), ap (part_at c.args.input.now.text.now c.args.room) c.in-Some.ensures.found ∙ part_field c.args.input.now.text.now c.args.room c.in-Some.token (drop (c.args.at + 1) c.args.input.now.tokens.now) (drop c.in_ok-name.behind c.args.input.now.tokens.now) c.in_ok-name.name (sym c.if-is_dot.ensures) c.in_ok-name.ensures.1 (sym c.if-not-sees_left_paren.ensures))
+path::part-returns-then-not-sees_left_paren t c = (omega (arith, c.in_ok-name.ensures.0), ap (part_at c.args.input.now.text.now c.args.room) c.in-Some.ensures.found ∙ part_field c.args.input.now.text.now c.args.room c.in-Some.token (drop (c.args.at + 1) c.args.input.now.tokens.now) (drop c.in_ok-name.behind c.args.input.now.tokens.now) c.in_ok-name.name (sym c.if-is_dot.ensures) c.in_ok-name.ensures.1 (sym c.if-not-sees_left_paren.ensures) ∙ ap (λ p. Some (Some p, drop c.in_ok-name.behind c.args.input.now.tokens.now)) (sym c.in_ok-field.ensures))
 
 pub path::part-returns-in_err-arguments : goal.path::part-returns-in_err-arguments
 path::part-returns-in_err-arguments t c = hands_on c.args.input.now.tokens.now c.in_ok-name.behind c.args.at (part_at c.args.input.now.text.now c.args.room (drop c.args.at c.args.input.now.tokens.now)) (arguments_at c.args.input.now.text.now c.args.room (drop c.in_ok-name.behind c.args.input.now.tokens.now)) c.in_err-arguments.field-0.0 c.from_residual-in_err-arguments.result c.from_residual-in_err-arguments.ensures.1 (λ n. ap (part_at c.args.input.now.text.now c.args.room) c.in-Some.ensures.found ∙ part_call c.args.input.now.text.now c.args.room c.in-Some.token (drop (c.args.at + 1) c.args.input.now.tokens.now) (drop c.in_ok-name.behind c.args.input.now.tokens.now) c.in_ok-name.name (sym c.if-is_dot.ensures) c.in_ok-name.ensures.1 (sym c.if-not-sees_left_paren.ensures) ∙ rw n) c.in_err-arguments.ensures
 
 pub path::part-returns-then-is_dot : goal.path::part-returns-then-is_dot
-path::part-returns-then-is_dot t c = (omega (arith, c.in_ok-name.ensures.0, c.in_ok-arguments.ensures.0), ap (part_at c.args.input.now.text.now c.args.room) c.in-Some.ensures.found ∙ part_call c.args.input.now.text.now c.args.room c.in-Some.token (drop (c.args.at + 1) c.args.input.now.tokens.now) (drop c.in_ok-name.behind c.args.input.now.tokens.now) c.in_ok-name.name (sym c.if-is_dot.ensures) c.in_ok-name.ensures.1 (sym c.if-not-sees_left_paren.ensures) ∙ rw c.in_ok-arguments.ensures.1)
+path::part-returns-then-is_dot t c = (omega (arith, c.in_ok-name.ensures.0, c.in_ok-arguments.ensures.0), ap (part_at c.args.input.now.text.now c.args.room) c.in-Some.ensures.found ∙ part_call c.args.input.now.text.now c.args.room c.in-Some.token (drop (c.args.at + 1) c.args.input.now.tokens.now) (drop c.in_ok-name.behind c.args.input.now.tokens.now) c.in_ok-name.name (sym c.if-is_dot.ensures) c.in_ok-name.ensures.1 (sym c.if-not-sees_left_paren.ensures) ∙ simp (c.in_ok-arguments.ensures.1, c.in_ok-method.ensures))
 
 pub path::part-returns-in_err-inner : goal.path::part-returns-in_err-inner
 path::part-returns-in_err-inner t c = too_deep c.args.input.now.tokens.now c.args.at (part_at c.args.input.now.text.now c.args.room (drop c.args.at c.args.input.now.tokens.now)) c.in_err-inner.field-0.0 c.from_residual-in_err-inner.result c.from_residual-in_err-inner.ensures.1 c.in_err-inner.ensures.1 (ap (part_at c.args.input.now.text.now c.args.room) c.in-Some.ensures.found ∙ part_flat c.args.input.now.text.now c.args.room c.in-Some.token (drop (c.args.at + 1) c.args.input.now.tokens.now) c.in_err-inner.ensures.0 (sym c.if-is_dot.ensures) (sym c.if-is_left_bracket.ensures))
@@ -246,7 +246,7 @@ pub path::part-returns-in_err-index : goal.path::part-returns-in_err-index
 path::part-returns-in_err-index t c = hands_on c.args.input.now.tokens.now (c.args.at + 1) c.args.at (part_at c.args.input.now.text.now c.args.room (drop c.args.at c.args.input.now.tokens.now)) (bracketed_at c.args.input.now.text.now c.in_ok-inner.inner (drop (c.args.at + 1) c.args.input.now.tokens.now)) c.in_err-index.field-0.0 c.from_residual-in_err-index.result c.from_residual-in_err-index.ensures.1 (λ n. ap (part_at c.args.input.now.text.now c.args.room) c.in-Some.ensures.found ∙ part_index c.args.input.now.text.now c.args.room c.in-Some.token (drop (c.args.at + 1) c.args.input.now.tokens.now) c.in_ok-inner.inner c.in_ok-inner.ensures (sym c.if-is_dot.ensures) (sym c.if-is_left_bracket.ensures) ∙ rw n) c.in_err-index.ensures
 
 pub path::part-returns-then-is_left_bracket : goal.path::part-returns-then-is_left_bracket
-path::part-returns-then-is_left_bracket t c = (omega (arith, c.in_ok-index.ensures.0), ap (part_at c.args.input.now.text.now c.args.room) c.in-Some.ensures.found ∙ part_index c.args.input.now.text.now c.args.room c.in-Some.token (drop (c.args.at + 1) c.args.input.now.tokens.now) c.in_ok-inner.inner c.in_ok-inner.ensures (sym c.if-is_dot.ensures) (sym c.if-is_left_bracket.ensures) ∙ simp (c.in_ok-index.ensures.1, c.into_inner.ensures))
+path::part-returns-then-is_left_bracket t c = (omega (arith, c.in_ok-index.ensures.0), ap (part_at c.args.input.now.text.now c.args.room) c.in-Some.ensures.found ∙ part_index c.args.input.now.text.now c.args.room c.in-Some.token (drop (c.args.at + 1) c.args.input.now.tokens.now) c.in_ok-inner.inner c.in_ok-inner.ensures (sym c.if-is_dot.ensures) (sym c.if-is_left_bracket.ensures) ∙ simp (c.in_ok-index.ensures.1, c.in_ok-indexed.ensures))
 
 pub path::part-returns : goal.path::part-returns
 path::part-returns t c = (omega (arith), ap (part_at c.args.input.now.text.now c.args.room) c.in-Some.ensures.found ∙ part_other c.args.input.now.text.now c.args.room c.in-Some.token (drop (c.args.at + 1) c.args.input.now.tokens.now) (sym c.if-is_dot.ensures) (sym c.if-is_left_bracket.ensures) ∙ ap (λ ts. Some (None, ts)) (sym c.in-Some.ensures.found))
@@ -275,11 +275,11 @@ path::primary-returns-then-is_identifier t c = as_read c.args.input.now.tokens.n
 pub path::primary-returns-then-is_left_paren : goal.path::primary-returns-then-is_left_paren
 path::primary-returns-then-is_left_paren t c = as_read c.args.input.now.tokens.now c.args.at (c.args.at + 1) (primary_at c.args.input.now.text.now c.args.room (drop c.args.at c.args.input.now.tokens.now)) (enclosed_at c.args.input.now.text.now c.args.room c.in-Some.token (drop (c.args.at + 1) c.args.input.now.tokens.now)) c.enclosed.result (omega arith) (ap (primary_at c.args.input.now.text.now c.args.room) c.in-Some.ensures.found ∙ primary_enclosed c.args.input.now.text.now c.args.room c.in-Some.token (drop (c.args.at + 1) c.args.input.now.tokens.now) (no_literal c.args.input.now.text.now c.in-Some.token (sym c.in_ok-tree.ensures ∙ c.in_default-2.is)) (sym c.if-is_identifier.ensures) (sym c.if-is_left_paren.ensures)) c.enclosed.ensures
 
-pub path::primary-returns-in_err-tree-2 : goal.path::primary-returns-in_err-tree-2
-path::primary-returns-in_err-tree-2 t c = out_of_memory c.args.input.now.tokens.now c.args.at (primary_at c.args.input.now.text.now c.args.room (drop c.args.at c.args.input.now.tokens.now)) c.from_residual-in_err-tree-2.result c.from_residual-in_err-tree-2.ensures.1
+pub path::primary-returns-in_err-this : goal.path::primary-returns-in_err-this
+path::primary-returns-in_err-this t c = out_of_memory c.args.input.now.tokens.now c.args.at (primary_at c.args.input.now.text.now c.args.room (drop c.args.at c.args.input.now.tokens.now)) c.from_residual-in_err-this.result c.from_residual-in_err-this.ensures.1
 
 pub path::primary-returns-then-is_this : goal.path::primary-returns-then-is_this
-path::primary-returns-then-is_this t c = (omega (arith), ap (primary_at c.args.input.now.text.now c.args.room) c.in-Some.ensures.found ∙ primary_this c.args.input.now.text.now c.args.room c.in-Some.token (drop (c.args.at + 1) c.args.input.now.tokens.now) (no_literal c.args.input.now.text.now c.in-Some.token (sym c.in_ok-tree.ensures ∙ c.in_default-2.is)) (sym c.if-is_identifier.ensures) (sym c.if-is_left_paren.ensures) (sym c.if-is_this.ensures) ∙ ap (λ e. Some (e, (drop (c.args.at + 1) c.args.input.now.tokens.now))) (sym c.in_ok-tree-2.ensures))
+path::primary-returns-then-is_this t c = (omega (arith), ap (primary_at c.args.input.now.text.now c.args.room) c.in-Some.ensures.found ∙ primary_this c.args.input.now.text.now c.args.room c.in-Some.token (drop (c.args.at + 1) c.args.input.now.tokens.now) (no_literal c.args.input.now.text.now c.in-Some.token (sym c.in_ok-tree.ensures ∙ c.in_default-2.is)) (sym c.if-is_identifier.ensures) (sym c.if-is_left_paren.ensures) (sym c.if-is_this.ensures) ∙ ap (λ e. Some (e, (drop (c.args.at + 1) c.args.input.now.tokens.now))) (sym c.in_ok-this.ensures))
 
 pub path::primary-returns-then-is_super : goal.path::primary-returns-then-is_super
 path::primary-returns-then-is_super t c = as_read c.args.input.now.tokens.now c.args.at (c.args.at + 1) (primary_at c.args.input.now.text.now c.args.room (drop c.args.at c.args.input.now.tokens.now)) (through_super_at c.args.input.now.text.now c.args.room c.in-Some.token (drop (c.args.at + 1) c.args.input.now.tokens.now)) c.through_super.result (omega arith) (ap (primary_at c.args.input.now.text.now c.args.room) c.in-Some.ensures.found ∙ primary_super c.args.input.now.text.now c.args.room c.in-Some.token (drop (c.args.at + 1) c.args.input.now.tokens.now) (no_literal c.args.input.now.text.now c.in-Some.token (sym c.in_ok-tree.ensures ∙ c.in_default-2.is)) (sym c.if-is_identifier.ensures) (sym c.if-is_left_paren.ensures) (sym c.if-is_this.ensures) (sym c.if-is_super.ensures)) c.through_super.ensures
@@ -311,20 +311,20 @@ path::enclosed-returns t c = (omega (arith, c.in_ok-inside.ensures.0, c.in_ok-en
 pub path::named-returns-in_err-name : goal.path::named-returns-in_err-name
 path::named-returns-in_err-name t c = out_of_memory c.args.input.now.tokens.now c.args.at (named_at c.args.input.now.text.now c.args.room c.args.token (drop c.args.at c.args.input.now.tokens.now)) c.from_residual.result c.from_residual.ensures.1
 
-pub path::named-returns-in_err-new : goal.path::named-returns-in_err-new
-path::named-returns-in_err-new t c = out_of_memory c.args.input.now.tokens.now c.args.at (named_at c.args.input.now.text.now c.args.room c.args.token (drop c.args.at c.args.input.now.tokens.now)) c.from_residual-in_err-new.result c.from_residual-in_err-new.ensures.1
+pub path::named-returns-in_err-name_alone : goal.path::named-returns-in_err-name_alone
+path::named-returns-in_err-name_alone t c = out_of_memory c.args.input.now.tokens.now c.args.at (named_at c.args.input.now.text.now c.args.room c.args.token (drop c.args.at c.args.input.now.tokens.now)) c.from_residual-in_err-name_alone.result c.from_residual-in_err-name_alone.ensures.1
 
 pub path::named-returns-then-not-sees_left_paren : goal.path::named-returns-then-not-sees_left_paren
-path::named-returns-then-not-sees_left_paren t c = (omega (arith), named_alone c.args.input.now.text.now c.args.room c.args.token (drop c.args.at c.args.input.now.tokens.now) (sym c.if-not-sees_left_paren.ensures) ∙ ap (λ e. Some (e, (drop c.args.at c.args.input.now.tokens.now))) (sym (c.in_ok-new.ensures ∙ ap tree.Name c.in_ok-name.ensures)))
+path::named-returns-then-not-sees_left_paren t c = (omega (arith), named_alone c.args.input.now.text.now c.args.room c.args.token (drop c.args.at c.args.input.now.tokens.now) (sym c.if-not-sees_left_paren.ensures) ∙ ap (λ e. Some (e, (drop c.args.at c.args.input.now.tokens.now))) (sym (c.in_ok-name_alone.ensures ∙ ap tree.Name c.in_ok-name.ensures)))
 
 pub path::named-returns-in_err-arguments : goal.path::named-returns-in_err-arguments
 path::named-returns-in_err-arguments t c = hands_on c.args.input.now.tokens.now c.args.at c.args.at (named_at c.args.input.now.text.now c.args.room c.args.token (drop c.args.at c.args.input.now.tokens.now)) (arguments_at c.args.input.now.text.now c.args.room (drop c.args.at c.args.input.now.tokens.now)) c.in_err-arguments.field-0.0 c.from_residual-in_err-arguments.result c.from_residual-in_err-arguments.ensures.1 (λ n. named_call c.args.input.now.text.now c.args.room c.args.token (drop c.args.at c.args.input.now.tokens.now) (sym c.if-not-sees_left_paren.ensures) ∙ rw n) c.in_err-arguments.ensures
 
-pub path::named-returns-in_err-new-2 : goal.path::named-returns-in_err-new-2
-path::named-returns-in_err-new-2 t c = out_of_memory c.args.input.now.tokens.now c.args.at (named_at c.args.input.now.text.now c.args.room c.args.token (drop c.args.at c.args.input.now.tokens.now)) c.from_residual-in_err-new-2.result c.from_residual-in_err-new-2.ensures.1
+pub path::named-returns-in_err-call : goal.path::named-returns-in_err-call
+path::named-returns-in_err-call t c = out_of_memory c.args.input.now.tokens.now c.args.at (named_at c.args.input.now.text.now c.args.room c.args.token (drop c.args.at c.args.input.now.tokens.now)) c.from_residual-in_err-call.result c.from_residual-in_err-call.ensures.1
 
 pub path::named-returns : goal.path::named-returns
-path::named-returns t c = (omega (arith, c.in_ok-arguments.ensures.0), named_call c.args.input.now.text.now c.args.room c.args.token (drop c.args.at c.args.input.now.tokens.now) (sym c.if-not-sees_left_paren.ensures) ∙ simp (c.in_ok-arguments.ensures.1, c.in_ok-new-2.ensures, c.in_ok-name.ensures))
+path::named-returns t c = (omega (arith, c.in_ok-arguments.ensures.0), named_call c.args.input.now.text.now c.args.room c.args.token (drop c.args.at c.args.input.now.tokens.now) (sym c.if-not-sees_left_paren.ensures) ∙ simp (c.in_ok-arguments.ensures.1, c.in_ok-call.ensures, c.in_ok-name.ensures))
 
 pub path::through_super-returns-in_err-rest : goal.path::through_super-returns-in_err-rest
 path::through_super-returns-in_err-rest t c = hands_on c.args.input.now.tokens.now c.args.at c.args.at (through_super_at c.args.input.now.text.now c.args.room c.args.token (drop c.args.at c.args.input.now.tokens.now)) (accept is_dot (drop c.args.at c.args.input.now.tokens.now)) c.in_err-rest.field-0.0 c.from_residual.result c.from_residual.ensures.1 (λ n. super_by c.args.input.now.text.now c.args.room c.args.token (drop c.args.at c.args.input.now.tokens.now) ∙ rw n) c.in_err-rest.ensures
@@ -335,11 +335,11 @@ path::through_super-returns-in_err-name t c = hands_on c.args.input.now.tokens.n
 pub path::through_super-returns-in_err-arguments : goal.path::through_super-returns-in_err-arguments
 path::through_super-returns-in_err-arguments t c = hands_on c.args.input.now.tokens.now c.in_ok-name.behind c.args.at (through_super_at c.args.input.now.text.now c.args.room c.args.token (drop c.args.at c.args.input.now.tokens.now)) (arguments_at c.args.input.now.text.now c.args.room (drop c.in_ok-name.behind c.args.input.now.tokens.now)) c.in_err-arguments.field-0.0 c.from_residual-in_err-arguments.result c.from_residual-in_err-arguments.ensures.1 (λ n. super_by c.args.input.now.text.now c.args.room c.args.token (drop c.args.at c.args.input.now.tokens.now) ∙ simp (c.in_ok-rest.ensures.1, c.in_ok-name.ensures.1, n)) c.in_err-arguments.ensures
 
-pub path::through_super-returns-in_err-new : goal.path::through_super-returns-in_err-new
-path::through_super-returns-in_err-new t c = out_of_memory c.args.input.now.tokens.now c.args.at (through_super_at c.args.input.now.text.now c.args.room c.args.token (drop c.args.at c.args.input.now.tokens.now)) c.from_residual-in_err-new.result c.from_residual-in_err-new.ensures.1
+pub path::through_super-returns-in_err-super_call : goal.path::through_super-returns-in_err-super_call
+path::through_super-returns-in_err-super_call t c = out_of_memory c.args.input.now.tokens.now c.args.at (through_super_at c.args.input.now.text.now c.args.room c.args.token (drop c.args.at c.args.input.now.tokens.now)) c.from_residual-in_err-super_call.result c.from_residual-in_err-super_call.ensures.1
 
 pub path::through_super-returns : goal.path::through_super-returns
-path::through_super-returns t c = (omega (arith, c.in_ok-rest.ensures.0, c.in_ok-name.ensures.0, c.in_ok-arguments.ensures.0), super_by c.args.input.now.text.now c.args.room c.args.token (drop c.args.at c.args.input.now.tokens.now) ∙ simp (c.in_ok-rest.ensures.1, c.in_ok-name.ensures.1, c.in_ok-arguments.ensures.1, c.in_ok-new.ensures))
+path::through_super-returns t c = (omega (arith, c.in_ok-rest.ensures.0, c.in_ok-name.ensures.0, c.in_ok-arguments.ensures.0), super_by c.args.input.now.text.now c.args.room c.args.token (drop c.args.at c.args.input.now.tokens.now) ∙ simp (c.in_ok-rest.ensures.1, c.in_ok-name.ensures.1, c.in_ok-arguments.ensures.1, c.in_ok-super_call.ensures))
 
 pub path::creation-returns-then-not-is_identifier : goal.path::creation-returns-then-not-is_identifier
 path::creation-returns-then-not-is_identifier t c = refuses c.args.input.now.tokens.now c.args.at (creation_at c.args.input.now.text.now c.args.room c.args.token c.args.name (drop c.args.at c.args.input.now.tokens.now)) c.refuse.result c.refuse.ensures (creation_wrong c.args.input.now.text.now c.args.room c.args.token c.args.name (drop c.args.at c.args.input.now.tokens.now) (sym c.if-sees_left_paren.ensures) (sym c.if-not-is_identifier.ensures))
@@ -371,11 +371,11 @@ path::filled-returns-in_err-created t c = out_of_memory c.args.input.now.tokens.
 pub path::filled-returns-in_err-values : goal.path::filled-returns-in_err-values
 path::filled-returns-in_err-values t c = hands_on c.args.input.now.tokens.now c.brackets-dims.result.1 c.args.at (filled_at c.args.input.now.text.now c.args.room c.args.token c.args.name (drop c.args.at c.args.input.now.tokens.now)) (braces_at c.args.input.now.text.now c.args.room (drop c.brackets-dims.result.1 c.args.input.now.tokens.now)) c.in_err-values.field-0.0 c.from_residual-in_err-values.result c.from_residual-in_err-values.ensures.1 (λ n. filled_by c.args.input.now.text.now c.args.room c.args.token c.args.name (drop c.args.at c.args.input.now.tokens.now) c.in-Some.brace (drop (c.brackets-dims.result.1 + 1) c.args.input.now.tokens.now) (sym c.brackets-dims.ensures.rest ∙ c.in-Some.ensures.found) ∙ ap (λ ts. and_then (braces_at c.args.input.now.text.now c.args.room ts) (λ values rest. Some (tree.NewArrayOf c.args.token.span (type_of c.args.input.now.text.now c.args.name (brackets (drop c.args.at c.args.input.now.tokens.now)).0) c.in-Some.brace.span values, rest))) (sym c.in-Some.ensures.found) ∙ rw n) c.in_err-values.ensures
 
-pub path::filled-returns-in_err-new : goal.path::filled-returns-in_err-new
-path::filled-returns-in_err-new t c = out_of_memory c.args.input.now.tokens.now c.args.at (filled_at c.args.input.now.text.now c.args.room c.args.token c.args.name (drop c.args.at c.args.input.now.tokens.now)) c.from_residual-in_err-new.result c.from_residual-in_err-new.ensures.1
+pub path::filled-returns-in_err-tree : goal.path::filled-returns-in_err-tree
+path::filled-returns-in_err-tree t c = out_of_memory c.args.input.now.tokens.now c.args.at (filled_at c.args.input.now.text.now c.args.room c.args.token c.args.name (drop c.args.at c.args.input.now.tokens.now)) c.from_residual-in_err-tree.result c.from_residual-in_err-tree.ensures.1
 
 pub path::filled-returns : goal.path::filled-returns
-path::filled-returns t c = (omega (arith, c.brackets-dims.ensures.forward, c.in_ok-values.ensures.0), filled_by c.args.input.now.text.now c.args.room c.args.token c.args.name (drop c.args.at c.args.input.now.tokens.now) c.in-Some.brace (drop (c.brackets-dims.result.1 + 1) c.args.input.now.tokens.now) (sym c.brackets-dims.ensures.rest ∙ c.in-Some.ensures.found) ∙ ap (λ ts. and_then (braces_at c.args.input.now.text.now c.args.room ts) (λ values rest. Some (tree.NewArrayOf c.args.token.span (type_of c.args.input.now.text.now c.args.name (brackets (drop c.args.at c.args.input.now.tokens.now)).0) c.in-Some.brace.span values, rest))) (sym c.in-Some.ensures.found) ∙ simp (c.in_ok-values.ensures.1, c.in_ok-new.ensures, c.in_ok-created.ensures, c.brackets-dims.ensures.dims))
+path::filled-returns t c = (omega (arith, c.brackets-dims.ensures.forward, c.in_ok-values.ensures.0), filled_by c.args.input.now.text.now c.args.room c.args.token c.args.name (drop c.args.at c.args.input.now.tokens.now) c.in-Some.brace (drop (c.brackets-dims.result.1 + 1) c.args.input.now.tokens.now) (sym c.brackets-dims.ensures.rest ∙ c.in-Some.ensures.found) ∙ ap (λ ts. and_then (braces_at c.args.input.now.text.now c.args.room ts) (λ values rest. Some (tree.NewArrayOf c.args.token.span (type_of c.args.input.now.text.now c.args.name (brackets (drop c.args.at c.args.input.now.tokens.now)).0) c.in-Some.brace.span values, rest))) (sym c.in-Some.ensures.found) ∙ simp (c.in_ok-values.ensures.1, c.in_ok-tree.ensures, c.in_ok-created.ensures, c.brackets-dims.ensures.dims))
 
 pub list::arguments-returns-in_err-behind : goal.list::arguments-returns-in_err-behind
 list::arguments-returns-in_err-behind t c = hands_on c.args.input.now.tokens.now c.args.from c.args.from (arguments_at c.args.input.now.text.now c.args.room (drop c.args.from c.args.input.now.tokens.now)) (accept is_left_paren (drop c.args.from c.args.input.now.tokens.now)) c.in_err-behind.field-0.0 c.from_residual.result c.from_residual.ensures.1 (λ n. arguments_fail c.args.input.now.text.now (drop c.args.from c.args.input.now.tokens.now) c.args.room n) c.in_err-behind.ensures
@@ -417,13 +417,13 @@ pub list::initial-returns-in_err-values : goal.list::initial-returns-in_err-valu
 list::initial-returns-in_err-values t c = hands_on c.args.input.now.tokens.now c.args.at c.args.at (initial_at c.args.input.now.text.now c.args.room (drop c.args.at c.args.input.now.tokens.now)) (braces_at c.args.input.now.text.now c.args.room (drop c.args.at c.args.input.now.tokens.now)) c.in_err-values.field-0.0 c.from_residual.result c.from_residual.ensures.1 (λ n. ap (initial_at c.args.input.now.text.now c.args.room) c.in-Some.ensures.found ∙ initial_array c.args.input.now.text.now c.args.room c.in-Some.token (drop (c.args.at + 1) c.args.input.now.tokens.now) (sym c.if-is_left_brace.ensures) ∙ ap (λ ts. and_then (braces_at c.args.input.now.text.now c.args.room ts) (λ values rest. Some (initial.Array c.in-Some.token.span values, rest))) (sym c.in-Some.ensures.found) ∙ rw n) c.in_err-values.ensures
 
 pub list::initial-returns-then-is_left_brace : goal.list::initial-returns-then-is_left_brace
-list::initial-returns-then-is_left_brace t c = (omega (arith, c.in_ok-values.ensures.0), ap (initial_at c.args.input.now.text.now c.args.room) c.in-Some.ensures.found ∙ initial_array c.args.input.now.text.now c.args.room c.in-Some.token (drop (c.args.at + 1) c.args.input.now.tokens.now) (sym c.if-is_left_brace.ensures) ∙ ap (λ ts. and_then (braces_at c.args.input.now.text.now c.args.room ts) (λ values rest. Some (initial.Array c.in-Some.token.span values, rest))) (sym c.in-Some.ensures.found) ∙ rw c.in_ok-values.ensures.1)
+list::initial-returns-then-is_left_brace t c = (omega (arith, c.in_ok-values.ensures.0), ap (initial_at c.args.input.now.text.now c.args.room) c.in-Some.ensures.found ∙ initial_array c.args.input.now.text.now c.args.room c.in-Some.token (drop (c.args.at + 1) c.args.input.now.tokens.now) (sym c.if-is_left_brace.ensures) ∙ ap (λ ts. and_then (braces_at c.args.input.now.text.now c.args.room ts) (λ values rest. Some (initial.Array c.in-Some.token.span values, rest))) (sym c.in-Some.ensures.found) ∙ simp (c.in_ok-values.ensures.1, c.in_ok-array.ensures))
 
 pub list::initial-returns-in_err-value : goal.list::initial-returns-in_err-value
 list::initial-returns-in_err-value t c = hands_on c.args.input.now.tokens.now c.args.at c.args.at (initial_at c.args.input.now.text.now c.args.room (drop c.args.at c.args.input.now.tokens.now)) (expr_at c.args.input.now.text.now c.args.room (drop c.args.at c.args.input.now.tokens.now)) c.in_err-value.field-0.0 c.from_residual-in_err-value.result c.from_residual-in_err-value.ensures.1 (λ n. ap (initial_at c.args.input.now.text.now c.args.room) c.in-Some.ensures.found ∙ initial_value c.args.input.now.text.now c.args.room c.in-Some.token (drop (c.args.at + 1) c.args.input.now.tokens.now) (sym c.if-is_left_brace.ensures) ∙ ap (λ ts. and_then (expr_at c.args.input.now.text.now c.args.room ts) (λ e rest. Some (initial.Value e, rest))) (sym c.in-Some.ensures.found) ∙ rw n) c.in_err-value.ensures
 
 pub list::initial-returns : goal.list::initial-returns
-list::initial-returns t c = (omega (arith, c.in_ok-value.ensures.0), ap (initial_at c.args.input.now.text.now c.args.room) c.in-Some.ensures.found ∙ initial_value c.args.input.now.text.now c.args.room c.in-Some.token (drop (c.args.at + 1) c.args.input.now.tokens.now) (sym c.if-is_left_brace.ensures) ∙ ap (λ ts. and_then (expr_at c.args.input.now.text.now c.args.room ts) (λ e rest. Some (initial.Value e, rest))) (sym c.in-Some.ensures.found) ∙ simp (c.in_ok-value.ensures.1, c.into_inner.ensures))
+list::initial-returns t c = (omega (arith, c.in_ok-value.ensures.0), ap (initial_at c.args.input.now.text.now c.args.room) c.in-Some.ensures.found ∙ initial_value c.args.input.now.text.now c.args.room c.in-Some.token (drop (c.args.at + 1) c.args.input.now.tokens.now) (sym c.if-is_left_brace.ensures) ∙ ap (λ ts. and_then (expr_at c.args.input.now.text.now c.args.room ts) (λ e rest. Some (initial.Value e, rest))) (sym c.in-Some.ensures.found) ∙ simp (c.in_ok-value.ensures.1, c.in_ok-plain.ensures))
 
 pub list::size-returns-then-not-sees_left_bracket-clause-value : goal.list::size-returns-then-not-sees_left_bracket-clause-value
 list::size-returns-then-not-sees_left_bracket-clause-value t c = (omega arith, size_none c.args.input.now.text.now c.args.room (drop c.args.at c.args.input.now.tokens.now) (elim c.then-not-sees_left_bracket.branch [ list::size-then-not-sees_left_bracket-via-then-not-sees_left_bracket w ↦ first_false _ (sym w.if-not-sees_left_bracket.ensures) | list::size-then-not-sees_left_bracket-via-else-not-sees_left_bracket+then-sees_brackets w ↦ left_and_pair (sym w.if-not-sees_left_bracket.ensures) (sym w.if-sees_brackets.ensures.value) ]))
@@ -438,7 +438,7 @@ pub list::size-returns-in_err-size-clause-value : goal.list::size-returns-in_err
 list::size-returns-in_err-size-clause-value t c = hands_on c.args.input.now.tokens.now c.in_ok-behind.behind c.args.at (size_at c.args.input.now.text.now c.args.room (drop c.args.at c.args.input.now.tokens.now)) (bracketed_at c.args.input.now.text.now c.in_ok-inner.inner (drop c.in_ok-behind.behind c.args.input.now.tokens.now)) c.in_err-size.field-0.0 c.from_residual-in_err-size.result c.from_residual-in_err-size.ensures.1 (λ n. size_by c.args.input.now.text.now c.args.room (drop c.args.at c.args.input.now.tokens.now) c.in_ok-inner.inner c.in_ok-behind.field-0-0 (drop c.in_ok-behind.behind c.args.input.now.tokens.now) c.in_ok-inner.ensures (left_not_pair (sym c.if-not-sees_left_bracket.ensures) (sym c.if-sees_brackets.ensures.value)) c.in_ok-behind.ensures.1 ∙ rw n) c.in_err-size.ensures
 
 pub list::size-returns-clause-value : goal.list::size-returns-clause-value
-list::size-returns-clause-value t c = (omega (arith, c.in_ok-behind.ensures.0, c.in_ok-size.ensures.0), size_by c.args.input.now.text.now c.args.room (drop c.args.at c.args.input.now.tokens.now) c.in_ok-inner.inner c.in_ok-behind.field-0-0 (drop c.in_ok-behind.behind c.args.input.now.tokens.now) c.in_ok-inner.ensures (left_not_pair (sym c.if-not-sees_left_bracket.ensures) (sym c.if-sees_brackets.ensures.value)) c.in_ok-behind.ensures.1 ∙ simp (c.in_ok-size.ensures.1, c.into_inner.ensures))
+list::size-returns-clause-value t c = (omega (arith, c.in_ok-behind.ensures.0, c.in_ok-size.ensures.0), size_by c.args.input.now.text.now c.args.room (drop c.args.at c.args.input.now.tokens.now) c.in_ok-inner.inner c.in_ok-behind.field-0-0 (drop c.in_ok-behind.behind c.args.input.now.tokens.now) c.in_ok-inner.ensures (left_not_pair (sym c.if-not-sees_left_bracket.ensures) (sym c.if-sees_brackets.ensures.value)) c.in_ok-behind.ensures.1 ∙ simp c.in_ok-size.ensures.1)
 
 pub list::size-returns-clause-forward : goal.list::size-returns-clause-forward
 list::size-returns-clause-forward t c = let moved = goes_forward is_left_bracket c.args.input.now.tokens.now c.args.at c.in_ok-behind.behind c.in_ok-behind.field-0-0 c.in_ok-behind.ensures.1 in omega (arith, moved, c.in_ok-size.ensures.0)

@@ -1,4 +1,4 @@
-use Rattle.std.proofs.Common.{◌≡◌, ◌+◌, ◌*◌, ◌-◌, ◌≤◌, [], length, drop}
+use Rattle.std.proofs.Common.{◌≡◌, ◌+◌, ◌*◌, ◌-◌, ◌≤◌, [], Some, length, drop}
 use Rattle.jsh_parse.specs.Reader.{readers, operations, parts, sizes, listed, initials}
 use Rattle.jsh_parse.specs.Reading.{below, level_at}
 use Rattle.jsh_parse.proofs.Onward.{prepend}
@@ -78,6 +78,12 @@ decreases-list::initials l = 64 * l.room + 52
 
 abbrev pub decreases-list::initial : goal.decreases-list::initial
 decreases-list::initial l = 64 * l.room + 50
+
+abbrev pub invariant-expression::level-loop-lower : goal.invariant-expression::level-loop-lower
+invariant-expression::level-loop-lower l = record {
+  forward : l.at ≤ l.end;
+  reads : level_at l.input.text.now l.room l.lower (drop l.at l.input.tokens.now) ≡ Some (l.tree, drop l.end l.input.tokens.now);
+}
 
 abbrev pub invariant-expression::operations-loop-turn : goal.invariant-expression::operations-loop-turn
 invariant-expression::operations-loop-turn l = record {

@@ -92,5 +92,6 @@ returns c = (
     c.in_ok-name.ensures.1,
     c.in_ok-end.ensures.1,
     sym c.final_word-is_final.ensures.value,
+    c.in_ok-new.ensures,
   ),
 )

@@ -1,4 +1,4 @@
-use Rattle.std.proofs.Common.{drop, sym, arith}
+use Rattle.std.proofs.Common.{Some, drop, sym, ap, arith}
 use Rattle.jsh_parse.specs.Reader.{accept}
 use Rattle.jsh_parse.specs.Reading.{name_read, expr_at}
 use Rattle.jsh_parse.specs.Marks.{is_right_paren, is_colon}
@@ -95,5 +95,5 @@ returns c = (
     c.in_ok-array.ensures.1,
     c.in_ok-end.ensures.1,
     sym c.final_word-is_final.ensures.value,
-  ),
+  ) (ap (λ head. Some (head, drop c.in_ok-end.end c.args.input.now.tokens.now)) (sym c.in_ok-new.ensures)),
 )

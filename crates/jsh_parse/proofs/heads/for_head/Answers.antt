@@ -101,5 +101,6 @@ returns c = (
     c.in_ok-last.ensures.1,
     c.in_ok-update.ensures.1,
     c.in_ok-end.ensures.1,
+    c.in_ok-new.ensures,
   ),
 )

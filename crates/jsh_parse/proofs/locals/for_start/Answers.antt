@@ -41,7 +41,6 @@ returns-then-begins_local c =
             c.span_at-span.ensures,
             c.in_ok-variable.ensures.1,
             c.in_ok-start.ensures,
-            c.into_inner-variable.ensures,
           ),
     )
 

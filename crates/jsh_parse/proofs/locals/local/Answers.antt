@@ -38,6 +38,6 @@ returns c = (
     c.in_ok-end.ensures.1,
     sym c.final_word-is_final.ensures.value,
     c.span_at-span.ensures,
-    c.into_inner-variable.ensures,
+    c.in_ok-local_variable.ensures,
   ),
 )

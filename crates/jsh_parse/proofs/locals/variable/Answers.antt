@@ -82,6 +82,7 @@ returns c =
         sym c.if-not-sees_assign.ensures.value,
         next tokens c.in_ok-name.behind,
         c.in_ok-value.ensures.1,
+        c.into_inner-value.ensures,
         c.in_ok-variable-2.ensures,
       ),
     )

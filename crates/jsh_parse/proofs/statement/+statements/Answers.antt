@@ -272,7 +272,7 @@ group-returns-in_err-statements t c =
 pub group-returns : goal.group-returns
 group-returns t c = (
   omega (arith, c.in_ok-labels.ensures.0, c.in_ok-statements.ensures.0),
-  group_by _ _ _ ∙ simp (c.in_ok-labels.ensures.1, c.in_ok-statements.ensures.1),
+  group_by _ _ _ ∙ simp (c.in_ok-labels.ensures.1, c.in_ok-statements.ensures.1, c.in_ok-grouped.ensures),
 )
 
 pub catch-returns-in_err-head : goal.catch-returns-in_err-head
@@ -288,7 +288,7 @@ catch-returns-in_err-block t c =
 pub catch-returns : goal.catch-returns
 catch-returns t c = (
   omega (arith, c.in_ok-head.ensures.0, c.in_ok-block.ensures.0),
-  catch_by _ _ _ ∙ simp (c.in_ok-head.ensures.1, c.in_ok-block.ensures.1, c.caught.ensures),
+  catch_by _ _ _ ∙ simp (c.in_ok-head.ensures.1, c.in_ok-block.ensures.1, c.in_ok-caught.ensures),
 )
 
 pub block_statement-returns-then-begins_local : goal.block_statement-returns-then-begins_local
@@ -304,7 +304,7 @@ block_statement-returns-in_err-tree t c =
 pub block_statement-returns : goal.block_statement-returns
 block_statement-returns t c = (
   omega (arith, c.in_ok-tree.ensures.0),
-  statement_first _ _ _ (sym c.if-begins_local.ensures) ∙ simp (c.in_ok-tree.ensures.1, c.into_inner.ensures),
+  statement_first _ _ _ (sym c.if-begins_local.ensures) ∙ simp (c.in_ok-tree.ensures.1, c.in_ok-inside_block.ensures),
 )
 
 pub block-returns-in_err-brace : goal.block-returns-in_err-brace
@@ -374,7 +374,7 @@ statements-loop-turn-preserved t c =
       forward = omega (arith, c.loop-turn.invariant.forward, c.in_ok-further.ensures.0);
       reads = run_goes_on (statements_run c.args.input.now.text.now c.args.room) _ _ (statements_onward c.args.input.now.text.now c.args.room) _
           (c.left-most.result + 1) c.loop-turn._turn _ _ c.loop-turn.invariant.reads (omega arith) (sym c.if-ends_block.ensures)
-          _ _ c.in_ok-further.ensures.1 _ c.in_ok-push.ensures.items;
+          _ _ c.in_ok-further.ensures.1 _ c.in_ok-add.ensures;
     }
 
 pub statements-returns : goal.statements-returns
@@ -410,7 +410,7 @@ groups-loop-turn-preserved t c =
       forward = omega (arith, c.loop-turn.invariant.forward, c.in_ok-further.ensures.0);
       reads = run_goes_on (groups_run c.args.input.now.text.now c.args.room) _ _ (groups_onward c.args.input.now.text.now c.args.room) _
           (c.left-most.result + 1) c.loop-turn._turn _ _ c.loop-turn.invariant.reads (omega arith) (ap not (sym c.if-not-sees_label.ensures.value))
-          _ _ c.in_ok-further.ensures.1 _ c.in_ok-push.ensures.items;
+          _ _ c.in_ok-further.ensures.1 _ c.in_ok-add.ensures;
     }
 
 pub groups-returns : goal.groups-returns
@@ -446,7 +446,7 @@ catches-loop-turn-preserved t c =
       forward = omega (arith, c.loop-turn.invariant.forward, c.in_ok-further.ensures.0);
       reads = run_goes_on (catches_run c.args.input.now.text.now c.args.room) _ _ (catches_onward c.args.input.now.text.now c.args.room) _
           (c.left-most.result + 1) c.loop-turn._turn _ _ c.loop-turn.invariant.reads (omega arith) (ap not (sym c.if-not-sees_catch.ensures.value))
-          _ _ c.in_ok-further.ensures.1 _ c.in_ok-push.ensures.items;
+          _ _ c.in_ok-further.ensures.1 _ c.in_ok-add.ensures;
     }
 
 pub catches-returns : goal.catches-returns

@@ -1,0 +1,4 @@
+pub mod Constants
+pub mod Numbers
+pub mod Operators
+pub mod References

@@ -1,0 +1,6 @@
+use Rattle.std.proofs.Common.{rules}
+use Rattle.jsh_parse.specs.Reading.{spelled}
+use Rattle.jsh_decl.proofs.readers.expression_of.Goals as goal
+
+pub parse_expr-requires-clause-taken : goal.parse_expr-requires-clause-taken
+parse_expr-requires-clause-taken g c = spelled c.deref.result.now (search rules)

@@ -1,0 +1,5 @@
+pub mod Kinds
+pub mod Keys
+pub mod Headers
+pub mod Mentions
+pub mod Names

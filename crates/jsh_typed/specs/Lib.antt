@@ -1,0 +1,5 @@
+pub mod Conversions
+pub mod Hierarchy
+pub mod Kinds
+pub mod Operations
+pub mod Types

@@ -1,0 +1,6 @@
+use Rattle.std.proofs.Common.{◌≡◌, ◌++◌, drop}
+use Rattle.jsh_words.specs.Clap.{texts}
+use Rattle.jsh_words.proofs.checks.push_names.Given as goal
+
+abbrev pub invariant-loop-name : goal.invariant-loop-name
+invariant-loop-name l = l.files.items ++ texts (drop l.name-index l.names) ≡ l.fn.files.items ++ texts l.names
