@@ -22,8 +22,8 @@ use Rattle.jsh_recognizer.proofs.Reaches.{reach_of}
 use Rattle.jsh_recognizer.proofs.Refusals.{refused_once, refused_not_whole}
 use Rattle.jsh_recognizer.proofs.Prefixes.{prefix_tells, whole_tells, viable_tells}
 use Rattle.jsh_complete.specs.declared.completion.Completion.{Completion}
-use Rattle.jsh_complete.specs.Completeness.{Stop, at_end, at_fault, too_deep, lexical_stop, Counts, all, some, IsTooDeep, IsSnippet, MayGoOn, LacksSemicolon, Rule, no_tokens, else_may_follow, whole, lacks_semicolon, lacks_more, begins_whole, otherwise, Applies, before, NoneApplies, kind_by, IsEndOfLongest, IsEndBy, end_of, IsCompletion, by_rule}
-use Rattle.jsh_complete.specs.Completing.{counted_by, counted, is_snippet, may_go_on, may_come, lacks_only_semicolon, longest_within, longest, ends, leads_to_comment, are_none, applies, first_of, rule_of, end_by, completed, completion}
+use Rattle.jsh_complete.specs.Completeness.{Stop, at_end, at_fault, too_deep, Counts, all, some, IsTooDeep, IsSnippet, MayGoOn, LacksSemicolon, Rule, no_tokens, else_may_follow, whole, lacks_semicolon, lacks_more, begins_whole, otherwise, Applies, before, NoneApplies, IsEndOfLongest, IsEndBy, end_of, IsCompletion, by_rule}
+use Rattle.jsh_complete.specs.Completing.{counted_by, counted, is_snippet, may_go_on, may_come, lacks_only_semicolon, longest_within, longest, ends, leads_to_comment, are_none, applies, rule_of, end_by, completion}
 use Rattle.jsh_complete.specs.Reading.{IsLongest, MayCome}
 use Rattle.jsh_complete.proofs.Counted.{take_kinds, none_longest}
 use Rattle.jsh_complete.proofs.Unique.{one}

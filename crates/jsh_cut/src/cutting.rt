@@ -112,12 +112,7 @@ fn next_grown(alloc: Global, mut text: Waiting) -> Result<Next, AllocError>
 {
     let completion = text.analyze();
     match completion.kind {
-        Completeness::Complete => {
-            let end = completion.end as usize;
-            let source = SrcText::from_text(alloc, text.first_source(end))?;
-            let left = Remainder::of(alloc, &text.as_str()[end..])?;
-            Ok(Next::Eval(source, Cutting::Left(left)))
-        }
+        Completeness::Complete => next_left(alloc, text.into_remainder()),
         kind => settle(alloc, text, kind),
     }
 }

@@ -1,11 +1,13 @@
 //! What is left of a text whose snippets are cut off one by one.
 
 ghost use Rattle.std.specs.Prelude.{◌≡◌, ◌^◌, ◌<◌, length, drop, IfOk};
+ghost use Rattle.std.specs.String.{string_bytes};
 ghost use Rattle.jsh_cut.specs.Commands as spec;
+ghost use Rattle.jsh_cut.specs.Scans.{IsScanOf};
 ghost use Rattle.jsh_cut.specs.Remainders.{IsRemainder, Finds, Splits};
 
 use crate::rest::{beginning_of, first_source, rest_source, tokens_behind};
-use crate::scan::{Scan, scan_of};
+use crate::scan::Scan;
 use jsh_complete::Completeness;
 use jsh_tree::SrcText;
 use std::alloc::{AllocError, Global};
@@ -96,17 +98,18 @@ fn source_left<'a>(text: &'a str, scan: &Scan, base: usize, read: usize) -> &'a 
 }
 
 impl Remainder {
-    /// A text of which nothing is cut off.
-    pub fn of(alloc: Global, text: &str) -> Result<Remainder, AllocError>
-        requires { length text.now < 2 ^ 32 }
-        ensures { IfOk result (λ remainder. remainder ≡ text.now) }
+    /// A text of which nothing is cut off, with its tokens and its fault.
+    pub fn whole(text: String, scan: Scan) -> Remainder
+        requires short { length (string_bytes text) < 2 ^ 32 }
+        requires scanned { IsScanOf (string_bytes text) scan }
+        ensures { result ≡ string_bytes text }
     {
-        Ok(Remainder {
-            text: String::from_str(alloc, text)?,
-            scan: scan_of(alloc, text)?,
+        Remainder {
+            text,
+            scan,
             base: 0,
             read: 0,
-        })
+        }
     }
 
     pub fn as_str(&self) -> &str

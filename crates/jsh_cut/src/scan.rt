@@ -1,39 +1,17 @@
 //! The tokens of a text, and parts of it.
 
-ghost use Rattle.std.specs.Prelude.{◌≡◌, ◌^◌, ◌<◌, length, slice_range, IfOk};
+ghost use Rattle.std.specs.Prelude.{◌≡◌, slice_range};
 ghost use Rattle.std.specs.Str.{IsCharBoundary};
 ghost use Rattle.jsh_complete.specs.Completeness.{end_of};
-ghost use Rattle.jsh_cut.specs.Scans.{IsScanOf};
 
-use jsh_lex::{LexError, LexFault, lex};
+use jsh_lex::LexFault;
 use jsh_tree::{Seq, Token};
-use std::alloc::{AllocError, Global};
 
 /// The tokens of a text up to its first fault, and the kind of that fault.
 #[derive(Debug, Drop)]
 pub struct Scan {
     pub tokens: Seq<Token>,
     pub fault: Option<LexFault>,
-}
-
-/// Reads the tokens of a text.
-pub fn scan_of(alloc: Global, text: &str) -> Result<Scan, AllocError>
-    requires { length text.now < 2 ^ 32 }
-    ensures { IfOk result (IsScanOf text.now) }
-{
-    match lex(alloc, text) {
-        Ok(tokens) => Ok(Scan {
-            tokens: Seq::from_vec(tokens),
-            fault: None,
-        }),
-        Err(error) => match error {
-            LexError::NoMemory => Err(AllocError),
-            LexError::Fault { kind, before, .. } => Ok(Scan {
-                tokens: before,
-                fault: Some(kind),
-            }),
-        },
-    }
 }
 
 /// Where the last token ends.

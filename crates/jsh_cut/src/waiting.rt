@@ -5,15 +5,15 @@ ghost use Rattle.std.specs.Option.{option_map};
 ghost use Rattle.std.specs.Str.{IsCharBoundary};
 ghost use Rattle.jsh_lex.specs.Chars.{drop_while};
 ghost use Rattle.jsh_tree.specs.Text.{is_white};
-ghost use Rattle.jsh_complete.specs.declared.completion.Completeness.TheVariants as completeness;
 ghost use Rattle.jsh_cut.specs.Commands as spec;
 
 use crate::edge::{Edge, first_place, last_place};
 use crate::onward::{lex_from, lex_onward, onward_of};
-use crate::scan::{last_end, part};
+use crate::remainder::Remainder;
+use crate::scan::{Scan, last_end, part};
 use jsh_complete::{Completion, Reader};
 use jsh_lex::LexFault;
-use jsh_tree::Token;
+use jsh_tree::{Seq, Token};
 use std::alloc::{AllocError, Global};
 use std::fmt;
 use std::marker::Model;
@@ -164,14 +164,31 @@ impl Waiting {
     pub fn analyze(&mut self) -> Completion
         ensures same { self.new ≡ self.old }
         ensures value { result ≡ spec.completion self.old }
-        ensures between { result.kind ≡ completeness.Complete → IsCharBoundary self.old result.end }
-        ensures some { result.kind ≡ completeness.Complete → 0 < result.end }
     {
         self.reader.analyze(
             self.text.as_str(),
             self.tokens.as_slice(),
             kind_of(self.fault),
         )
+    }
+
+    /// The text of which nothing is cut off yet.
+    pub fn into_remainder(self) -> Remainder
+        ensures { result ≡ self }
+    {
+        let Waiting {
+            text,
+            tokens,
+            fault,
+            first: _first,
+            last: _last,
+            reader: _reader,
+        } = self;
+        let scan = Scan {
+            tokens: Seq::from_vec(tokens),
+            fault: kind_of(fault),
+        };
+        Remainder::whole(text, scan)
     }
 
     /// Where the source of the text begins.
@@ -201,13 +218,5 @@ impl Waiting {
         ensures { result.now ≡ spec.source_of self.now }
     {
         part(self.as_str(), self.begin(), self.end())
-    }
-
-    /// The source of the snippet that the text begins with, and that ends at this place.
-    pub fn first_source(&self, end: usize) -> &str
-        requires { IsCharBoundary self.now end }
-        ensures { result.now ≡ slice_range self.now (spec.begin_of self.now) end }
-    {
-        part(self.as_str(), self.begin(), end)
     }
 }

@@ -1,6 +1,4 @@
 use Rattle.std.proofs.Common.{◌≡◌, ◌∙◌, ℕ, List, Option, sym, ap, subst}
-use Rattle.std.specs.Str.{IsUtf8}
-use Rattle.std.proofs.lemmas.Str.{IsUtf8-string_bytes}
 use Rattle.jsh_tree.specs.declared.token.Token.{Token}
 use Rattle.jsh_lex.specs.declared.lexeme.LexFault.{LexFault}
 use Rattle.jsh_lex.specs.Lexis.{Lexed, tokens}
@@ -8,7 +6,7 @@ use Rattle.jsh_complete.specs.Completeness.{IsCompletion}
 use Rattle.jsh_complete.specs.declared.completion.Completion.{Completion}
 use Rattle.jsh_cut.specs.Commands.{fault_of}
 use Rattle.jsh_cut.specs.Scans.{lexed_as}
-use Rattle.jsh_cut.proofs.Completions.{is_completion, complete_ends}
+use Rattle.jsh_cut.proofs.Completions.{is_completion}
 use Rattle.jsh_cut.proofs.waiting.Waiting.analyze.Goals as goal
 
 -- what is said of a text is said of it by its tokens and its fault
@@ -31,23 +29,3 @@ returns-clause-value c =
     is_completion text c.analyze.result
     (said_so c.as_str.result.now text c.self.inside.tokens.items c.as_slice.result.now c.self.inside.fault c.kind_of.result c.analyze.result c.analyze.ensures.completion
     (c.as_str.ensures.value ∙ c.self.view_is) lexed c.as_slice.ensures.value c.kind_of.ensures)
-
-pub returns-clause-between : goal.returns-clause-between
-returns-clause-between c is =
-    let text = c.args.self.now in
-    let u : IsUtf8 text = subst (λ (t : List ℕ). IsUtf8 t) c.self.view_is (IsUtf8-string_bytes c.self.inside.text) in
-    let lexed : tokens text ≡ lexed_as c.self.inside.tokens.items c.self.inside.fault =
-    subst (λ (t : List ℕ). tokens t ≡ lexed_as c.self.inside.tokens.items c.self.inside.fault) c.self.view_is c.self.invariant.lexed in
-    (complete_ends text c.analyze.result u
-    (said_so c.as_str.result.now text c.self.inside.tokens.items c.as_slice.result.now c.self.inside.fault c.kind_of.result c.analyze.result c.analyze.ensures.completion
-    (c.as_str.ensures.value ∙ c.self.view_is) lexed c.as_slice.ensures.value c.kind_of.ensures) is).0
-
-pub returns-clause-some : goal.returns-clause-some
-returns-clause-some c is =
-    let text = c.args.self.now in
-    let u : IsUtf8 text = subst (λ (t : List ℕ). IsUtf8 t) c.self.view_is (IsUtf8-string_bytes c.self.inside.text) in
-    let lexed : tokens text ≡ lexed_as c.self.inside.tokens.items c.self.inside.fault =
-    subst (λ (t : List ℕ). tokens t ≡ lexed_as c.self.inside.tokens.items c.self.inside.fault) c.self.view_is c.self.invariant.lexed in
-    (complete_ends text c.analyze.result u
-    (said_so c.as_str.result.now text c.self.inside.tokens.items c.as_slice.result.now c.self.inside.fault c.kind_of.result c.analyze.result c.analyze.ensures.completion
-    (c.as_str.ensures.value ∙ c.self.view_is) lexed c.as_slice.ensures.value c.kind_of.ensures) is).1
