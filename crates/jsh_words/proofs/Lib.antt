@@ -6,3 +6,4 @@ mod Rows
 mod Whole
 mod Numbers
 mod Runs
+mod Single

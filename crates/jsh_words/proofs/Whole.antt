@@ -57,7 +57,7 @@ keys_waiting rest name word words known goes = tt
 keys_waiting unknown name word words known goes = tt
 keys_waiting (option other value) name word words known goes = tt
 
-keys : (words : List (List ℕ)) → IfSome (parts_from None words) Keys × ((name : List ℕ) → is_option name ≡ true → IfSome (parts_from (Some name) words) Keys)
+pub keys : (words : List (List ℕ)) → IfSome (parts_from None words) Keys × ((name : List ℕ) → is_option name ≡ true → IfSome (parts_from (Some name) words) Keys)
 keys [] = (tt, λ name known. tt)
 keys (word ∷ words) =
     let behind = keys words in

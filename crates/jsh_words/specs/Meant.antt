@@ -119,3 +119,21 @@ meant g =
 -- What the words mean, where they are accepted.
 abbrev pub meaning : List (List ℕ) → Option Meaning
 meaning words = option_and_then (λ ps. meant (given_by ps)) (parts words)
+
+-- ---- a replay
+
+-- the words are accepted, and ask for a replay
+abbrev pub is_replay : Option Meaning → Bool
+is_replay (Some (Replay name)) = true
+is_replay _ = false
+
+-- no word stands there, or one `--`
+abbrev pub is_end : List (List ℕ) → Bool
+is_end [] = true
+is_end (word ∷ []) = bytes_eq word (codes "--")
+is_end (word ∷ next ∷ more) = false
+
+-- the name of a file stands there alone
+abbrev pub is_lone_file : List (List ℕ) → Bool
+is_lone_file [] = false
+is_lone_file (name ∷ words) = is_file name && is_end words

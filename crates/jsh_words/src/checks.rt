@@ -63,7 +63,13 @@ pub(crate) fn number_or(default: u32, least: u32, most: u32, values: &[&str]) ->
 pub(crate) fn is_file(name: &str) -> bool
     ensures { result ≡ is_file name.now }
 {
-    match name.as_bytes() {
+    is_name(name.as_bytes())
+}
+
+pub(crate) fn is_name(bytes: &[u8]) -> bool
+    ensures { result ≡ is_file bytes.now }
+{
+    match bytes {
         [] => false,
         [first, ..] => *first != b'-',
     }

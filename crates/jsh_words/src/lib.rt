@@ -10,11 +10,15 @@ mod found;
 mod meaning;
 mod meant;
 mod reading;
+mod replays;
+#[cfg(test)]
+mod tests;
 
 use crate::found::found_in;
 use crate::meant::meant;
 use crate::reading::read;
 pub use meaning::{Meaning, WordsError};
+pub use replays::wants_replay;
 use std::alloc::Global;
 
 /// What a command line means, by its words without the name of the program.
