@@ -1,12 +1,12 @@
 -- An option that stands twice has no meaning.
-use Rattle.std.proofs.Common.{◌≡◌, ℕ, Bool, true, false, ◌&&◌, ◌||◌, List, [], ◌∷◌, Option, Some, None, refl, sym, ap, ◌∙◌, subst}
+use Rattle.std.proofs.Common.{◌≡◌, ℕ, Bool, true, false, ◌&&◌, ◌||◌, List, [], ◌∷◌, Option, Some, None, refl, ap, subst}
 use Rattle.std.specs.Prelude.{if◌then◌else◌, not, option_and_then}
 use Rattle.std.specs.List.{list_all, list_any}
 use Rattle.std.specs.Str.{bytes_eq}
 use Rattle.std.proofs.lemmas.Slice.Eq.{bytes_eq-Decides}
 use Rattle.jsh_words.specs.declared.meaning.Meaning.{Meaning}
 use Rattle.jsh_words.specs.Parts.{Part, values_of}
-use Rattle.jsh_words.specs.Meant.{Given, given_by, is_empty, has_no_run, run, demo, replay, meant, are_scripts, number_or, file}
+use Rattle.jsh_words.specs.Meant.{Given, is_empty, has_no_run, run, demo, replay, meant, number_or, file}
 
 -- at most one
 abbrev pub few : List (List ℕ) → Bool

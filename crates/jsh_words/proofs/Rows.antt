@@ -1,24 +1,23 @@
 -- What `clap` finds under a name, after parts that are used in order.
-use Rattle.std.proofs.Common.{◌≡◌, ◌⊎◌, inl, inr, ℕ, Bool, true, false, ◌&&◌, ◌||◌, List, [], ◌∷◌, ◌++◌, map, Option, Some, None, refl, sym, ap, ap₂, ◌∙◌, subst, append_assoc}
+use Rattle.std.proofs.Common.{◌≡◌, ◌⊎◌, inl, inr, ℕ, Bool, true, false, ◌&&◌, ◌||◌, List, [], ◌∷◌, ◌++◌, map, Some, None, refl, sym, ap, ◌∙◌, subst, append_assoc}
 use Rattle.std.proofs.lemmas.List.{append-nil}
-use Rattle.std.specs.Prelude.{if◌then◌else◌, option_map, find, unwrap_or, IfSome, not}
+use Rattle.std.specs.Prelude.{if◌then◌else◌, option_map, find, unwrap_or}
 use Rattle.std.specs.Option.{option_map_or}
-use Rattle.std.specs.List.{list_any, list_all, filter}
+use Rattle.std.specs.List.{filter}
 use Rattle.std.specs.Str.{bytes_eq}
 use Rattle.std.proofs.lemmas.Cmp.{nat_list_eq_equiv}
 use Rattle.std.proofs.lemmas.Slice.Eq.{bytes_eq-Decides}
-use Rattle.clap.specs.Walk.{Row, Rule, at_row, without, with_values, more_values, has_row, all_of, used, used_by_id, stronger, arg_by_id, reading_by}
+use Rattle.clap.specs.Walk.{Row, Rule, without, with_values, more_values, has_row, all_of, used_by_id, stronger, arg_by_id, reading_by}
 use Rattle.clap.specs.Kinds.{Kinds, or_else}
 use Rattle.clap.specs.Faults.{use_fault}
 use Rattle.clap.specs.declared.builder.value_parser.Reading.{Reading}
 use Rattle.clap.specs.declared.parser.matches.ValueSource.{ValueSource}
 use Rattle.clap.specs.declared.parser.matches.ValueSource.TheVariants.{CommandLine}
-use Rattle.clap.specs.declared.error.kind.ErrorKind.{ErrorKind}
 use Rattle.clap.specs.declared.error.kind.ErrorKind.TheVariants as kind
-use Rattle.jsh_words.specs.Parts.{Part, script, is_option, options, values_of}
-use Rattle.jsh_words.proofs.Rules.{opt, scripts}
+use Rattle.jsh_words.specs.Parts.{Part, script, is_option, values_of}
+use Rattle.jsh_words.proofs.Rules.{scripts}
 use Rattle.jsh_words.proofs.Once.{few, few_more}
-use Rattle.jsh_words.proofs.Walks.{Reads, pend_fault, pend_rows, parts_fault, parts_rows, first_fails, second_fails, never}
+use Rattle.jsh_words.proofs.Walks.{Reads, pend_fault, pend_rows, parts_fault, parts_rows, first_fails, second_fails}
 
 -- the values under a name
 abbrev pub lookup : List ℕ → List Row → List (List ℕ)

@@ -1,5 +1,5 @@
 -- What a run means, by its parts.
-use Rattle.std.proofs.Common.{◌≡◌, ℕ, Bool, true, false, List, Option, Some, None, refl, ap, ◌∙◌}
+use Rattle.std.proofs.Common.{◌≡◌, ℕ, Bool, List, Option, Some, None, ap, ◌∙◌}
 use Rattle.std.specs.Prelude.{if◌then◌else◌, option_and_then}
 use Rattle.jsh_words.specs.declared.meaning.Meaning.{Meaning}
 use Rattle.jsh_words.specs.declared.meaning.Meaning.TheVariants.{Run}

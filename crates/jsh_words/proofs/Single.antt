@@ -1,5 +1,5 @@
 -- Which words ask for a replay.
-use Rattle.std.proofs.Common.{◌≡◌, ◌⊎◌, inl, inr, ℕ, ◌+◌, suc, Bool, true, false, ◌&&◌, ◌||◌, cond, List, [], ◌∷◌, ◌++◌, map, take, drop, codes, Option, Some, None, refl, sym, ap, ap₂, ◌∙◌, subst, arith}
+use Rattle.std.proofs.Common.{◌≡◌, inl, inr, ℕ, ◌+◌, suc, Bool, true, false, ◌&&◌, ◌||◌, cond, List, [], ◌∷◌, ◌++◌, map, take, drop, codes, Option, Some, None, refl, sym, ap, ap₂, ◌∙◌, subst, arith}
 use Rattle.std.specs.Prelude.{◌==◌, if◌then◌else◌, not, option_and_then, option_map, IfSome}
 use Rattle.std.specs.List.{list_all, list_any, filter, before_first, after_first, position_or_len}
 use Rattle.std.specs.Str.{bytes_eq}
@@ -10,7 +10,8 @@ use Rattle.std.proofs.lemmas.Slice.Eq.{bytes_eq-Decides}
 use Rattle.jsh_words.specs.declared.meaning.Meaning.{Meaning}
 use Rattle.jsh_words.specs.declared.meaning.Meaning.TheVariants.{Run, Demo, Replay}
 use Rattle.jsh_words.specs.Parts.{Part, Word, rest, option, unknown, plain, word_of, behind_dashes, is_equals, script, is_option, options, step, with_part, parts_from, values_of}
-use Rattle.jsh_words.specs.Meant.{Given, given_by, is_empty, is_file, has_no_run, run, demo, replay, meant, meaning, number, number_or, file, are_scripts, is_replay, is_end, is_lone_file}
+use Rattle.jsh_words.specs.Meant.{Given, given_by, is_empty, is_file, has_no_run, run, demo, replay, meant, meaning, number, number_or, file, are_scripts, is_replay}
+use Rattle.jsh_words.specs.Lone.{is_end, is_lone_file}
 use Rattle.jsh_words.proofs.Shapes.{Shows, shown}
 use Rattle.jsh_words.proofs.Once.{few, few_more}
 use Rattle.jsh_words.proofs.Rows.{Key, Keys}

@@ -1,13 +1,13 @@
 -- The walk of `clap` over the words uses their parts in order, and fails where they have none.
-use Rattle.std.proofs.Common.{◌≡◌, ℕ, ◌<◌, Bool, true, false, ◌&&◌, ◌||◌, List, [], ◌∷◌, ◌++◌, map, length, codes, Option, Some, None, refl, sym, ap, ap₂, ◌∙◌, subst, arith}
+use Rattle.std.proofs.Common.{◌≡◌, ℕ, ◌<◌, Bool, true, false, ◌&&◌, ◌||◌, List, [], ◌∷◌, map, length, codes, Option, Some, None, refl, sym, ap, ap₂, ◌∙◌, subst, arith}
 use Rattle.std.specs.Prelude.{if◌then◌else◌, nat_lt, option_map, fold, slice_get, drop, encode_utf8}
 use Rattle.std.specs.Option.{option_map_or}
 use Rattle.std.specs.Str.{bytes_eq, chars, IsUtf8}
 use Rattle.std.proofs.lemmas.Cmp.{nat_list_eq_equiv}
-use Rattle.clap.specs.Lexer.{long_of, short_of}
-use Rattle.clap.specs.Walk.{Held, Names, Row, Rule, Step, Waiting, Walk, idle, positional, option as awaits, next, trailing, value as to_scripts}
-use Rattle.clap.specs.Walk.{arg_by_id, arg_by_index, arg_by_long, arg_by_short, walked, after_step, to_positional, positional_held, is_pending, takes_several}
-use Rattle.clap.specs.Walk.{subcommand_met, subcommand_or_other, long_or_other, long_word, long_met, after_flag, short_or_plain, plain_word, option_word, word_met}
+use Rattle.clap.specs.Lexer.{long_of}
+use Rattle.clap.specs.Walk.{Held, Row, Rule, Step, Waiting, Walk, idle, positional, option as awaits, next, trailing, value as to_scripts}
+use Rattle.clap.specs.Walk.{arg_by_id, arg_by_index, arg_by_long, arg_by_short, walked, after_step, to_positional, is_pending}
+use Rattle.clap.specs.Walk.{subcommand_met, subcommand_or_other, long_or_other, long_met, after_flag, short_or_plain, plain_word, option_word, word_met}
 use Rattle.clap.specs.Walk.{pushed, settled, settled_rows, used, used_by_id, reacted}
 use Rattle.clap.specs.Simple.{Shape, new_shape}
 use Rattle.clap.specs.Kinds.{Kinds, or_else}

@@ -1,15 +1,14 @@
 -- What `clap` makes of all the words.
-use Rattle.std.proofs.Common.{◌≡◌, ℕ, Bool, true, false, ◌&&◌, ◌||◌, List, [], ◌∷◌, ◌++◌, map, length, Option, Some, None, inl, inr, refl, sym, ap, ap₂, ◌∙◌, subst}
+use Rattle.std.proofs.Common.{◌≡◌, ℕ, Bool, true, false, ◌||◌, List, [], ◌∷◌, map, length, Option, Some, None, inl, inr, refl, sym, ap, ap₂, ◌∙◌, subst}
 use Rattle.std.specs.Prelude.{◌==◌, if◌then◌else◌, option_and_then, fold, is_some, option_map, unwrap_or, IfSome, String}
 use Rattle.std.specs.Option.{option_map_or}
 use Rattle.std.specs.String.{string_bytes}
-use Rattle.std.specs.Str.{IsUtf8}
 use Rattle.std.proofs.lemmas.Str.{IsUtf8-string_bytes}
-use Rattle.clap.specs.Walk.{Held, Row, Rule, idle, has_row, with_default, default_rows, reading_by, nothing_held, walk, walk_from, all_of, finished, settled}
+use Rattle.clap.specs.Walk.{Row, Rule, idle, has_row, with_default, default_rows, reading_by, nothing_held, walk, walk_from, settled}
 use Rattle.clap.specs.Words.{App, HasMatchesOf, kind_of, matches_of, raw_values, matched_of, found_of, rows_of}
 use Rattle.clap.specs.Simple.{built, entered}
 use Rattle.clap.specs.Kinds.{Kinds, HasKind, or_else}
-use Rattle.clap.specs.Faults.{is_simple_and_free, fault_of, default_fault, defaults_fault, given_default_fault, check_fault, entered_fault, level_fault, walk_fault, settle_fault}
+use Rattle.clap.specs.Faults.{is_simple_and_free, fault_of, defaults_fault, given_default_fault, entered_fault, level_fault, walk_fault, settle_fault}
 use Rattle.clap.specs.declared.parser.matches.ArgMatches.{ArgMatches}
 use Rattle.clap.specs.declared.error.Error.{Error}
 use Rattle.clap.specs.declared.error.kind.ErrorKind.TheVariants as kind
@@ -17,10 +16,10 @@ use Rattle.clap.proofs.WalkLemmas.{raw_values-rows}
 use Rattle.jsh_words.specs.Parts.{Part, Word, rest, option, unknown, plain, word_of, script, is_option, options, step, with_part, parts_from, parts, values_of}
 use Rattle.jsh_words.specs.Meant.{given_by, meant, meaning}
 use Rattle.jsh_words.specs.Clap.{app, values_in}
-use Rattle.jsh_words.proofs.Rules.{opt, scripts, rules, long_known, long_unknown, id_known, id_script, index_script, short_unknown, app_is_simple, app_is_free}
-use Rattle.jsh_words.proofs.Once.{few, all_few, many, each}
-use Rattle.jsh_words.proofs.Walks.{Reads, AllUtf8, shape, at, bare, claims, fails, ends, Meets, parts_fault, parts_rows, or_else_nothing}
-use Rattle.jsh_words.proofs.Rows.{Key, Keys, Once, lookup, gathers, unfailing}
+use Rattle.jsh_words.proofs.Rules.{rules, long_known, long_unknown, id_known, id_script, index_script, short_unknown, app_is_simple, app_is_free}
+use Rattle.jsh_words.proofs.Once.{all_few, many, each}
+use Rattle.jsh_words.proofs.Walks.{Reads, AllUtf8, shape, at, bare, claims, fails, ends, Meets, parts_fault, or_else_nothing}
+use Rattle.jsh_words.proofs.Rows.{Key, Keys, lookup, gathers, unfailing}
 
 reads : Reads rules
 reads = record { long = long_known; other = long_unknown; id = id_known; script_id = id_script; index = index_script; short = short_unknown }

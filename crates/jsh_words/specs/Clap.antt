@@ -1,5 +1,5 @@
 -- What `clap` is asked to read, and what it found.
-use Rattle.std.specs.Prelude.{ℕ, true, List, [], ◌∷◌, map, codes, Some}
+use Rattle.std.specs.Prelude.{ℕ, true, List, [], map, codes, Some}
 use Rattle.std.specs.Option.{option_map_or}
 use Rattle.std.specs.Borrow.{Bor}
 use Rattle.clap.specs.Words.{App, Rule, raw_values, matched_of, found_of, new_app, new_rule, with_rule}

@@ -1,5 +1,4 @@
 -- What was found of the words.
-use Rattle.std.specs.Prelude.{List, map}
 use Rattle.jsh_words.specs.declared.found.Found.{Found}
 use Rattle.jsh_words.specs.Clap.{texts}
 use Rattle.jsh_words.specs.Meant.{Given}

@@ -2,3 +2,4 @@ pub mod Parts
 pub mod Meant
 pub mod Clap
 pub mod Found
+pub mod Lone

@@ -1,5 +1,5 @@
 -- Which command lines are accepted, and what each means.
-use Rattle.std.specs.Prelude.{ℕ, Bool, true, false, not, ◌&&◌, ◌||◌, ◌==◌, List, [], ◌∷◌, ◌++◌, length, nat_le, codes, if◌then◌else◌, Option, None, Some, option_map, option_and_then}
+use Rattle.std.specs.Prelude.{ℕ, Bool, true, false, not, ◌&&◌, ◌==◌, List, [], ◌∷◌, ◌++◌, length, nat_le, codes, if◌then◌else◌, Option, None, Some, option_map, option_and_then}
 use Rattle.std.specs.List.{list_all, list_any}
 use Rattle.std.specs.Str.{bytes_eq}
 use Rattle.std.specs.Str.Parse.{digits_value}
@@ -126,14 +126,3 @@ meaning words = option_and_then (λ ps. meant (given_by ps)) (parts words)
 abbrev pub is_replay : Option Meaning → Bool
 is_replay (Some (Replay name)) = true
 is_replay _ = false
-
--- no word stands there, or one `--`
-abbrev pub is_end : List (List ℕ) → Bool
-is_end [] = true
-is_end (word ∷ []) = bytes_eq word (codes "--")
-is_end (word ∷ next ∷ more) = false
-
--- the name of a file stands there alone
-abbrev pub is_lone_file : List (List ℕ) → Bool
-is_lone_file [] = false
-is_lone_file (name ∷ words) = is_file name && is_end words

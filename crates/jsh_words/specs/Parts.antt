@@ -1,5 +1,5 @@
 -- The parts of a command line: its options with their values, and its scripts. A word is the list of its bytes.
-use Rattle.std.specs.Prelude.{ℕ, Bool, ◌==◌, List, [], ◌∷◌, map, length, codes, if◌then◌else◌, Option, None, Some, option_map}
+use Rattle.std.specs.Prelude.{ℕ, Bool, ◌==◌, List, [], ◌∷◌, map, codes, if◌then◌else◌, Option, None, Some, option_map}
 use Rattle.std.specs.List.{list_any, filter, before_first, after_first}
 use Rattle.std.specs.Str.{bytes_eq}
 

@@ -1,7 +1,8 @@
 //! Which words ask for a replay.
 ghost use Rattle.std.specs.Prelude.{◌≡◌, ◌&&◌, ◌∷◌, map};
 ghost use Rattle.std.specs.String.{string_bytes};
-ghost use Rattle.jsh_words.specs.Meant.{meaning, is_file, is_replay, is_end, is_lone_file};
+ghost use Rattle.jsh_words.specs.Meant.{meaning, is_file, is_replay};
+ghost use Rattle.jsh_words.specs.Lone.{is_end, is_lone_file};
 
 use crate::checks::is_name;
 

@@ -1,7 +1,7 @@
-use Rattle.std.proofs.Common.{◌≡◌, ap, ◌∙◌, sym}
+use Rattle.std.proofs.Common.{ap, ◌∙◌, sym}
 use Rattle.std.specs.Prelude.{option_and_then}
 use Rattle.std.proofs.lemmas.Result.{IfOk-weaker, IfErr-weaker}
-use Rattle.jsh_words.specs.Meant.{given_by, meant, meaning}
+use Rattle.jsh_words.specs.Meant.{given_by, meant}
 use Rattle.jsh_words.proofs.words.Goals as goal
 
 pub returns : goal.returns

@@ -1,4 +1,4 @@
-use Rattle.std.proofs.Common.{◌≡◌, true, rules, refl, sym, arith}
+use Rattle.std.proofs.Common.{◌≡◌, true, rules, sym, arith}
 use Rattle.std.specs.Prelude.{Err}
 use Rattle.jsh_words.specs.Meant.{is_number}
 use Rattle.jsh_words.proofs.Numbers.{parsed, too_large}

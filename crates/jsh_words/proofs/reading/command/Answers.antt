@@ -1,10 +1,7 @@
-use Rattle.std.proofs.Common.{rules, ◌≡◌, refl, ap, ap₂, ◌∙◌}
+use Rattle.std.proofs.Common.{rules, ◌≡◌, ap₂, ◌∙◌}
 use Rattle.std.proofs.lemmas.Result.{IfOk-weaker}
-use Rattle.clap.specs.Words.{App, app_of, rule_of, with_rule, new_rule}
-use Rattle.jsh_words.specs.Clap.{app, bare_app, option_rule, script_rule}
-use Rattle.jsh_words.proofs.Rules.{short_unknown}
-use Rattle.jsh_words.proofs.Shapes.{shown}
-use Rattle.jsh_words.proofs.Whole
+use Rattle.clap.specs.Words.{app_of, with_rule}
+use Rattle.jsh_words.specs.Clap.{bare_app}
 use Rattle.jsh_words.proofs.reading.command.Goals as goal
 
 pub returns : goal.returns

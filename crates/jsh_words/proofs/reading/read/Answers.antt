@@ -1,4 +1,4 @@
-use Rattle.std.proofs.Common.{◌≡◌, ◌∙◌, refl, rules}
+use Rattle.std.proofs.Common.{◌∙◌}
 use Rattle.jsh_words.proofs.Whole.{all_utf8, found_is, refused_is}
 use Rattle.jsh_words.proofs.reading.read.Goals as goal
 
