@@ -85,30 +85,30 @@ pub fn int_arithmetic(operator: Arithmetic, left: i32, right: i32) -> Option<i32
 }
 
 /// The same on two `long`s.
-pub fn long_arithmetic(operator: Arithmetic, left: i64, right: i64) -> Option<i64>
-    ensures { result ≡ spec.long_arithmetic operator left right }
+pub fn long_arithmetic(operator: Arithmetic, first: i64, second: i64) -> Option<i64>
+    ensures { result ≡ spec.long_arithmetic operator first second }
 {
     match operator {
-        Arithmetic::Add => Some(left.wrapping_add(right)),
-        Arithmetic::Subtract => Some(left.wrapping_sub(right)),
-        Arithmetic::Multiply => Some(left.wrapping_mul(right)),
+        Arithmetic::Add => Some(first.wrapping_add(second)),
+        Arithmetic::Subtract => Some(first.wrapping_sub(second)),
+        Arithmetic::Multiply => Some(first.wrapping_mul(second)),
         Arithmetic::Divide => {
-            if right == 0 {
+            if second == 0 {
                 None
             } else {
-                Some(left.wrapping_div(right))
+                Some(first.wrapping_div(second))
             }
         }
         Arithmetic::Remainder => {
-            if right == 0 {
+            if second == 0 {
                 None
             } else {
-                Some(left.wrapping_rem(right))
+                Some(first.wrapping_rem(second))
             }
         }
-        Arithmetic::And => Some(left & right),
-        Arithmetic::Or => Some(left | right),
-        Arithmetic::Xor => Some(left ^ right),
+        Arithmetic::And => Some(first & second),
+        Arithmetic::Or => Some(first | second),
+        Arithmetic::Xor => Some(first ^ second),
     }
 }
 

@@ -1,5 +1,5 @@
 -- Well-typed bodies: each node's parts have exactly the types that it wants (JLS 14, 15). A conversion is a step of its own.
-use Rattle.std.specs.Prelude.{ℕ, ◌-◌, Bool, true, false, not, ◌&&◌, ◌||◌, ◌==◌, nat_le, if◌then◌else◌, List, [], ◌∷◌, codes, length, map, fold, Option, Some, None, is_some}
+use Rattle.std.specs.Prelude.{ℕ, ◌-◌, Bool, true, false, not, ◌&&◌, ◌==◌, nat_le, if◌then◌else◌, List, [], ◌∷◌, codes, length, map, fold, Option, Some, None, is_some}
 use Rattle.std.specs.List.{list_all, slice_get}
 use Rattle.jsh_text.specs.declared.value.Value.{Value}
 use Rattle.jsh_text.specs.declared.value.Value.TheVariants as value
@@ -12,11 +12,9 @@ use Rattle.jsh_typed.specs.declared.types.ResolvedType.{ResolvedType}
 use Rattle.jsh_typed.specs.declared.types.ResolvedType.TheVariants as type
 use Rattle.jsh_typed.specs.declared.types.Numeric.{Numeric}
 use Rattle.jsh_typed.specs.declared.types.Numeric.TheVariants as numeric
-use Rattle.jsh_typed.specs.declared.types.Promoted.{Promoted}
 use Rattle.jsh_typed.specs.declared.hierarchy.HierarchyEntry.{HierarchyEntry}
 use Rattle.jsh_typed.specs.declared.conversion.ComparedAs.{ComparedAs}
 use Rattle.jsh_typed.specs.declared.conversion.ComparedAs.TheVariants as compared_as
-use Rattle.jsh_typed.specs.declared.operation.UnaryOperation.{UnaryOperation}
 use Rattle.jsh_typed.specs.declared.operation.BinaryOperation.{BinaryOperation}
 use Rattle.jsh_typed.specs.declared.operation.BinaryOperation.TheVariants as between
 use Rattle.jsh_typed.specs.declared.expression.LibraryFunction.{LibraryFunction}

@@ -1,5 +1,5 @@
 -- What an operator does, by the types of its operands (JLS 15.15 to 15.24).
-use Rattle.std.specs.Prelude.{ℕ, Bool, true, false, ◌&&◌, ◌||◌, if◌then◌else◌, List, Option, Some, None, option_map}
+use Rattle.std.specs.Prelude.{Bool, true, false, ◌&&◌, ◌||◌, if◌then◌else◌, List, Option, Some, None, option_map}
 use Rattle.jsh_tree.specs.declared.expression.BinaryOperator.{BinaryOperator}
 use Rattle.jsh_tree.specs.declared.expression.BinaryOperator.TheVariants as binary
 use Rattle.jsh_tree.specs.declared.expression.UnaryOperator.{UnaryOperator}
@@ -11,7 +11,6 @@ use Rattle.jsh_typed.specs.declared.types.Numeric.{Numeric}
 use Rattle.jsh_typed.specs.declared.types.Promoted.{Promoted}
 use Rattle.jsh_typed.specs.declared.types.Promoted.TheVariants as promoted_to
 use Rattle.jsh_typed.specs.declared.hierarchy.HierarchyEntry.{HierarchyEntry}
-use Rattle.jsh_typed.specs.declared.conversion.ComparedAs.{ComparedAs}
 use Rattle.jsh_typed.specs.declared.operation.Arithmetic.{Arithmetic}
 use Rattle.jsh_typed.specs.declared.operation.Arithmetic.TheVariants as arithmetic_operator
 use Rattle.jsh_typed.specs.declared.operation.Shift.{Shift}

@@ -20,6 +20,3 @@ pub use operation::{
 };
 pub use statement::{Body, BodyCode, CatchClause, Statement, SwitchGroup, SwitchLabel};
 pub use types::{ClassName, Element, Numeric, Promoted, ResolvedType};
-
-#[cfg(test)]
-mod tests;

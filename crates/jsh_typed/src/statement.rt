@@ -1,6 +1,12 @@
-use crate::expression::{Expression, Step};
-use crate::types::{ClassName, ResolvedType};
+ghost use Rattle.std.specs.Prelude.{◌≡◌, List, true};
+ghost use Rattle.jsh_typed.specs.declared.hierarchy.HierarchyEntry.{HierarchyEntry};
+ghost use Rattle.jsh_typed.specs.Kinds.{kinds};
+
+use crate::expression::{Expression, Start, Step};
+use crate::types::{ClassName, Element, ResolvedType};
+use jsh_text::Value;
 use jsh_tree::{Boxed, Link, Seq};
+use std::alloc::Global;
 
 /// A statement (JLS 14). A declaration of a local with an initializer is an assignment, and one
 /// without is no statement.
@@ -101,4 +107,25 @@ pub enum BodyCode {
     Statements(Seq<Statement>),
     /// The value of this expression is the result.
     Value(Expression),
+}
+
+impl Body {
+    /// The body that gives a number.
+    pub fn of_int(alloc: Global, number: i32) -> Body
+        ensures { (hierarchy : List HierarchyEntry) → kinds hierarchy result ≡ true }
+    {
+        Body {
+            class: None,
+            slots: Seq::new(alloc),
+            params: 0,
+            result: Some(ResolvedType::Of {
+                element: Element::Int,
+                dims: 0,
+            }),
+            code: BodyCode::Value(Expression {
+                start: Start::Constant(Value::Int(number)),
+                steps: Seq::new(alloc),
+            }),
+        }
+    }
 }
