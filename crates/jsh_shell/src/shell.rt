@@ -250,4 +250,6 @@ pub fn run<R: Threads + Wait + Sync, D: Desk, G: Gate>(
 #[cfg(test)]
 mod cutting_tests;
 #[cfg(test)]
+mod embedding_test;
+#[cfg(test)]
 mod tests;
