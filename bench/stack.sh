@@ -4,10 +4,7 @@
 set -eu
 cd "$(dirname "$0")/.."
 if [ $# = 0 ]; then
-    set -- crates/jsh/out/jsh
-    if [ ! -x "$1" ]; then
-        (cd crates/jsh && rt run </dev/null >/dev/null)
-    fi
+    set -- "$(bench/built.sh jsh)"
 fi
 exec python3 - "$@" <<'EOS'
 import os, subprocess, sys
