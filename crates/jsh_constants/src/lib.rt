@@ -15,4 +15,6 @@ pub use operate::{Computed, binary_value, unary_value};
 pub use reference::text_of;
 
 #[cfg(test)]
+mod other_tests;
+#[cfg(test)]
 mod tests;

@@ -1,19 +1,12 @@
 //! What the operators of the language give for constants, from the text and the examples of its standard.
 
-use crate::{
-    Computed, binary_value, constant_binary, constant_cast, constant_choice, constant_literal,
-    constant_unary, converted, text_of, type_of_constant, unary_value,
-};
+use crate::constant_binary;
 use Plain::{Boolean, Char, Int, Long, Null, Text};
-use jsh_text::{KindName, UText, Value};
+use jsh_text::{UText, Value};
+use jsh_tree::BinaryOperator;
 use jsh_tree::BinaryOperator::{
     Add, And, AndAlso, Divide, Equal, Greater, GreaterOrEqual, Less, LessOrEqual, Multiply,
     NotEqual, Or, OrElse, Remainder, ShiftLeft, ShiftRight, Subtract, UnsignedShiftRight, Xor,
-};
-use jsh_tree::UnaryOperator::{Complement, Increment, Minus, Not, Plus};
-use jsh_tree::{BinaryOperator, Literal, Seq, UnaryOperator};
-use jsh_typed::{
-    Arithmetic, BinaryOperation, Element, Numeric, Promoted, ResolvedType, UnaryOperation,
 };
 use std::alloc::Global;
 use std::process::Abort;
@@ -21,7 +14,7 @@ use std::test::Fail;
 
 /// A value, as the tables have it.
 #[derive(Clone, Copy, Debug)]
-enum Plain {
+pub enum Plain {
     Int(i32),
     Long(i64),
     Char(u16),
@@ -160,7 +153,7 @@ const JOINS: [Binary; 10] = [
     (Text("ab"), Add, Null, None),
 ];
 
-fn value(alloc: Global, plain: Plain) -> Result<Value, Fail> {
+pub fn value(alloc: Global, plain: Plain) -> Result<Value, Fail> {
     match plain {
         Int(number) => Ok(Value::Int(number)),
         Long(number) => Ok(Value::Long(number)),
@@ -171,7 +164,7 @@ fn value(alloc: Global, plain: Plain) -> Result<Value, Fail> {
     }
 }
 
-fn is(alloc: Global, found: &Option<Value>, expected: Option<Plain>) -> Result<bool, Fail> {
+pub fn is(alloc: Global, found: &Option<Value>, expected: Option<Plain>) -> Result<bool, Fail> {
     match (found, expected) {
         (Some(found), Some(expected)) => Ok(*found == value(alloc, expected)?),
         (None, None) => Ok(true),
