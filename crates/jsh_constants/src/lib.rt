@@ -13,3 +13,8 @@ pub use constant::{
 pub use number::converted;
 pub use operate::{Computed, binary_value, unary_value};
 pub use reference::text_of;
+
+#[cfg(test)]
+mod other_tests;
+#[cfg(test)]
+mod tests;
