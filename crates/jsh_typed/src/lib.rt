@@ -6,6 +6,8 @@ mod expression;
 mod hierarchy;
 mod operation;
 mod statement;
+#[cfg(test)]
+mod tests;
 mod types;
 
 pub use conversion::{
