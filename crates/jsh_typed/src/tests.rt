@@ -1,6 +1,7 @@
 //! Pairs of types, and which converts to which. A type is written as in Java.
 
 use super::*;
+use jsh_text::Value;
 use jsh_tree::{Name, Seq};
 use std::alloc::{AllocError, Global};
 use std::test::Fail;
@@ -149,6 +150,140 @@ fn types_convert(rt: HostRuntime) -> Result<(), Fail> {
     for (from, to, wide, castable) in &CONVERSIONS {
         let found = converts(alloc, entries.as_slice(), from, to)?;
         assert_eq!(rt; found, (*wide, *castable), "{from} to {to}");
+    }
+    Ok(())
+}
+
+/// Two types, and what their numbers are promoted to together, if they are numbers.
+const PROMOTIONS: [(&str, &str, Option<Promoted>); 16] = [
+    ("char", "char", Some(Promoted::Int)),
+    ("char", "int", Some(Promoted::Int)),
+    ("char", "long", Some(Promoted::Long)),
+    ("char", "boolean", None),
+    ("int", "char", Some(Promoted::Int)),
+    ("int", "int", Some(Promoted::Int)),
+    ("int", "long", Some(Promoted::Long)),
+    ("int", "boolean", None),
+    ("long", "char", Some(Promoted::Long)),
+    ("long", "int", Some(Promoted::Long)),
+    ("long", "long", Some(Promoted::Long)),
+    ("long", "boolean", None),
+    ("boolean", "char", None),
+    ("boolean", "int", None),
+    ("boolean", "long", None),
+    ("boolean", "boolean", None),
+];
+
+fn promoted(alloc: Global, left: &str, right: &str) -> Result<Option<Promoted>, AllocError> {
+    let left = named(alloc, left)?;
+    let right = named(alloc, right)?;
+    Ok(common_number(&left, &right))
+}
+
+#[test]
+fn numbers_are_promoted(rt: HostRuntime) -> Result<(), Fail> {
+    for (left, right, wanted) in &PROMOTIONS {
+        let found = promoted(rt.alloc(), left, right)?;
+        assert!(rt; found == *wanted, "{left} and {right}");
+    }
+    Ok(())
+}
+
+/// A type with the value of a constant `int`, if it is one, and a type that it is assigned to.
+const ASSIGNMENTS: [(&str, Option<i32>, &str, bool); 10] = [
+    ("int", Some(65_535), "char", true),
+    ("int", Some(0), "char", true),
+    ("int", Some(65_536), "char", false),
+    ("int", Some(-1), "char", false),
+    ("int", None, "char", false),
+    ("char", None, "int", true),
+    ("long", None, "int", false),
+    ("int", Some(1), "long", true),
+    ("int", Some(1), "boolean", false),
+    ("Both", None, "Top", true),
+];
+
+fn assigned(
+    alloc: Global,
+    from: &str,
+    constant: Option<i32>,
+    to: &str,
+) -> Result<bool, AllocError> {
+    let entries = hierarchy(alloc)?;
+    let from = named(alloc, from)?;
+    let to = named(alloc, to)?;
+    assigns(
+        alloc,
+        entries.as_slice(),
+        &from,
+        &constant.map(Value::Int),
+        &to,
+    )
+}
+
+#[test]
+fn constants_are_assigned(rt: HostRuntime) -> Result<(), Fail> {
+    for (from, constant, to, wanted) in &ASSIGNMENTS {
+        let found = assigned(rt.alloc(), from, *constant, to)?;
+        assert!(rt; found == *wanted, "{from} to {to}");
+    }
+    Ok(())
+}
+
+/// The types of two branches, the second with the value of a constant `int`, if it is one, and the
+/// type of `?:`.
+const BRANCHES: [(&str, &str, Option<i32>, Option<BranchType>); 10] = [
+    ("char", "int", Some(97), Some(BranchType::First)),
+    (
+        "char",
+        "int",
+        Some(65_536),
+        Some(BranchType::Numbers(Promoted::Int)),
+    ),
+    (
+        "char",
+        "int",
+        None,
+        Some(BranchType::Numbers(Promoted::Int)),
+    ),
+    (
+        "char",
+        "long",
+        None,
+        Some(BranchType::Numbers(Promoted::Long)),
+    ),
+    ("int", "int", None, Some(BranchType::First)),
+    ("boolean", "int", None, None),
+    ("Both", "Top", None, Some(BranchType::Second)),
+    ("Top", "Both", None, Some(BranchType::First)),
+    ("null", "String", None, Some(BranchType::Second)),
+    ("Left", "Right", None, None),
+];
+
+fn branched(
+    alloc: Global,
+    yes: &str,
+    no: &str,
+    constant: Option<i32>,
+) -> Result<Option<BranchType>, AllocError> {
+    let entries = hierarchy(alloc)?;
+    let yes = named(alloc, yes)?;
+    let no = named(alloc, no)?;
+    branches(
+        alloc,
+        entries.as_slice(),
+        &yes,
+        &None,
+        &no,
+        &constant.map(Value::Int),
+    )
+}
+
+#[test]
+fn branches_have_a_type(rt: HostRuntime) -> Result<(), Fail> {
+    for (yes, no, constant, wanted) in &BRANCHES {
+        let found = branched(rt.alloc(), yes, no, *constant)?;
+        assert!(rt; found == *wanted, "{yes} and {no}");
     }
     Ok(())
 }
