@@ -14,6 +14,8 @@ use Rattle.jsh_complete.specs.declared.completion.Completeness.TheVariants as co
 use Rattle.jsh_complete.specs.declared.completion.Completion.{Completion}
 use Rattle.jsh_complete.specs.Completing.{completion as completion_by}
 use Rattle.jsh_tree.specs.Text.{is_white, most_source}
+use Rattle.jsh_lines.specs.declared.edge.Edge.TheVariants.{Blank, BlankOrReturn}
+use Rattle.jsh_lines.specs.Edges.{behind_front, before_back}
 use Rattle.jsh_lines.specs.Lines.{is_blank, as_text, input_lines}
 use Rattle.jsh_snippet.specs.declared.acts.Act.{Act}
 use Rattle.jsh_snippet.specs.declared.acts.Act.TheVariants as act
@@ -25,10 +27,6 @@ use Rattle.jsh_cut.specs.declared.held.Held.TheVariants as held
 
 -- ---- lines that are commands
 
--- space and tab
-abbrev pub is_space : ℕ → Bool
-is_space c = c == 32 || c == 9
-
 -- `/`, and a letter of ASCII or `?` behind it
 abbrev pub begins_command : List ℕ → Bool
 begins_command (a ∷ b ∷ rest) = a == 47 && (is_ascii_alphabetic b || b == 63)
@@ -36,11 +34,11 @@ begins_command _ = false
 
 -- its first characters other than spaces and tabs begin a command
 abbrev pub is_slash_line : List ℕ → Bool
-is_slash_line line = begins_command (drop_while is_space line)
+is_slash_line line = begins_command (behind_front Blank line)
 
 -- without spaces and tabs at its start, and without spaces, tabs and carriage returns at its end
 abbrev pub trimmed : List ℕ → List ℕ
-trimmed line = reverse (drop_while (λ c. is_space c || c == 13) (reverse (drop_while is_space line)))
+trimmed line = before_back BlankOrReturn (behind_front Blank line)
 
 -- this line, which comes without its blanks, ends the input
 abbrev pub is_exit : List ℕ → Bool

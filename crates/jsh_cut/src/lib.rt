@@ -11,7 +11,6 @@ ghost use Rattle.jsh_cut.specs.declared.held.Held.TheVariants as holds;
 
 mod command;
 mod cutting;
-mod edge;
 mod held;
 mod laws;
 mod line;

@@ -1,4 +1,1 @@
-pub mod Cuts
-pub mod Texts
-pub mod Lengths
-pub mod Rows
+pub mod Edges

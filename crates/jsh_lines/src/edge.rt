@@ -3,7 +3,7 @@
 ghost use Rattle.std.specs.Prelude.{◌≡◌, ◌-◌, length, reverse};
 ghost use Rattle.std.specs.Str.{IsCharBoundary};
 ghost use Rattle.jsh_lex.specs.Chars.{drop_while};
-ghost use Rattle.jsh_cut.specs.Scans.{is_outer};
+ghost use Rattle.jsh_lines.specs.Edges.{is_outer, behind_front, before_back};
 
 use jsh_tree::is_white;
 
@@ -52,4 +52,18 @@ pub fn last_place(edge: Edge, text: &str) -> usize
         end -= 1;
     }
     end
+}
+
+/// The text from its first character that counts.
+pub fn behind_front(edge: Edge, text: &str) -> &str
+    ensures { result.now ≡ behind_front edge text.now }
+{
+    &text[first_place(edge, text)..]
+}
+
+/// The text up to its last character that counts.
+pub fn before_back(edge: Edge, text: &str) -> &str
+    ensures { result.now ≡ before_back edge text.now }
+{
+    &text[..last_place(edge, text)]
 }

@@ -1,8 +1,8 @@
 use Rattle.std.proofs.Common.{◌≡◌, ◌∙◌, true, get_or, arith}
 use Rattle.std.proofs.lemmas.Str.{IsCharBoundary-start, IsCharBoundary-after_ascii}
-use Rattle.jsh_cut.specs.Scans.{is_outer}
-use Rattle.jsh_cut.proofs.Edges.{outer-ascii, front_drops}
-use Rattle.jsh_cut.proofs.edge.first_place.Goals as goal
+use Rattle.jsh_lines.specs.Edges.{is_outer}
+use Rattle.jsh_lines.proofs.Edges.{outer-ascii, front_drops}
+use Rattle.jsh_lines.proofs.edge.first_place.Goals as goal
 use Rattle.std.proofs.Common.{refl}
 
 pub loop-at-init : goal.loop-at-init

@@ -1,8 +1,8 @@
 use Rattle.std.proofs.Common.{◌≡◌, ◌≤◌, length, take, reverse}
 use Rattle.std.specs.Str.{IsCharBoundary}
 use Rattle.jsh_lex.specs.Chars.{drop_while}
-use Rattle.jsh_cut.specs.Scans.{is_outer}
-use Rattle.jsh_cut.proofs.edge.last_place.Given as goal
+use Rattle.jsh_lines.specs.Edges.{is_outer}
+use Rattle.jsh_lines.proofs.edge.last_place.Given as goal
 
 abbrev pub invariant-loop-end : goal.invariant-loop-end
 invariant-loop-end l = record {

@@ -4,9 +4,9 @@ use Rattle.std.proofs.Math.Seq.{drop-cons, take-append_seam, drop-append_seam}
 use Rattle.std.proofs.lemmas.Bool.Decides.{nat_tests}
 use Rattle.std.proofs.lemmas.List.{reverse-append, reverse-reverse, length-reverse}
 use Rattle.jsh_lex.specs.Chars.{drop_while}
-use Rattle.jsh_cut.specs.declared.edge.Edge.{Edge}
-use Rattle.jsh_cut.specs.declared.edge.Edge.TheVariants.{White, Blank, BlankOrReturn}
-use Rattle.jsh_cut.specs.Scans.{is_outer}
+use Rattle.jsh_lines.specs.declared.edge.Edge.{Edge}
+use Rattle.jsh_lines.specs.declared.edge.Edge.TheVariants.{White, Blank, BlankOrReturn}
+use Rattle.jsh_lines.specs.Edges.{is_outer}
 
 pub drops : (p : ℕ → Bool) (c : ℕ) (cs : List ℕ) → p c ≡ true → drop_while p (c ∷ cs) ≡ drop_while p cs
 drops p c cs h = rw h
