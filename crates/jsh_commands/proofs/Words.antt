@@ -17,8 +17,8 @@ pub word_grows : (p : ℕ → Bool) (bytes : List ℕ) (at : ℕ) → at < lengt
 word_grows p bytes at h is =
     let one : at + 1 ≡ suc at = omega arith in
     let here : take_while p (drop at bytes) ≡ get_or bytes at 0 ∷ take_while p (drop (at + 1) bytes) =
-        ap (take_while p) (drop-cons bytes at 0 h) ∙ takes p (get_or bytes at 0) (drop (suc at) bytes) is
-        ∙ ap (λ n. get_or bytes at 0 ∷ take_while p (drop n bytes)) (sym one) in
+    ap (take_while p) (drop-cons bytes at 0 h) ∙ takes p (get_or bytes at 0) (drop (suc at) bytes) is
+    ∙ ap (λ n. get_or bytes at 0 ∷ take_while p (drop n bytes)) (sym one) in
     ap (λ xs. xs ++ take_while p (drop (at + 1) bytes)) (take_more bytes at 0 h)
     ∙ append_assoc (take at bytes) (get_or bytes at 0 ∷ []) (take_while p (drop (at + 1) bytes))
     ∙ ap (λ xs. take at bytes ++ xs) (sym here)

@@ -29,9 +29,7 @@ pub fn command(alloc: Global, line: &str) -> Result<Command, NoMemory>
     let line = trimmed(line);
     match known_line(alloc, line)? {
         Some(known) => Ok(known),
-        None => Ok(Command::Ask(Question::Invalid(SrcText::from_text(
-            alloc, line,
-        )?))),
+        None => Ok(Command::Ask(Question::Invalid(SrcText::from_text(alloc, line)?))),
     }
 }
 

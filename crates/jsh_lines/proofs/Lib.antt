@@ -1,1 +1,5 @@
 pub mod Edges
+pub mod Cuts
+pub mod Texts
+pub mod Lengths
+pub mod Rows

@@ -11,7 +11,6 @@ ghost use Rattle.jsh_lines.specs.Lines.{IsFirstLineFeed, as_text, has_line_feed,
 mod edge;
 
 pub use edge::{Edge, before_back, behind_front, first_place, last_place};
-
 use jsh_tree::{SrcText, is_white};
 use std::alloc::{AllocError, Global};
 

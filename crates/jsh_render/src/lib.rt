@@ -12,6 +12,8 @@ mod names;
 mod outcomes;
 mod place;
 mod refusals;
+#[cfg(test)]
+mod snippet_tests;
 mod snippets;
 #[cfg(test)]
 mod tests;
