@@ -9,8 +9,8 @@ use Rattle.jsh_snippet.specs.declared.acts.Question.{Question}
 use Rattle.jsh_snippet.specs.declared.acts.Question.TheVariants as question
 use Rattle.jsh_snippet.specs.declared.acts.Target.{Target}
 use Rattle.jsh_snippet.specs.declared.acts.Target.TheVariants as target
-use Rattle.jsh_commands.specs.declared.command.Command.{Command}
-use Rattle.jsh_commands.specs.declared.command.Command.TheVariants.{Drop, Stop, Reset, Exit, Ask}
+use Rattle.jsh_commands.specs.declared.commands.Command.{Command}
+use Rattle.jsh_commands.specs.declared.commands.Command.TheVariants.{Drop, Stop, Reset, Exit, Ask}
 use Rattle.jsh_commands.specs.declared.words.Word.{Word}
 use Rattle.jsh_commands.specs.declared.words.Word.TheVariants as word
 use Rattle.jsh_commands.specs.Words.{trimmed, first_word, argument, word_of}

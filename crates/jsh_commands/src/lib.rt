@@ -6,15 +6,15 @@ ghost use Rattle.std.specs.Prelude.{◌≡◌, IfOk};
 ghost use Rattle.jsh_commands.specs.declared.words.Word.TheVariants as word;
 ghost use Rattle.jsh_commands.specs.Commands as spec;
 
-mod command;
-mod number;
+mod commands;
+mod numbers;
 #[cfg(test)]
 mod tests;
 mod words;
 
-use crate::number::number;
+use crate::numbers::number;
 use crate::words::{Word, split_word, trimmed, word_of};
-pub use command::Command;
+pub use commands::Command;
 use jsh_lex::is_identifier;
 use jsh_snippet::{Question, Target};
 use jsh_text::NoMemory;
