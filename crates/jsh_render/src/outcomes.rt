@@ -56,11 +56,7 @@ pub fn push_value(bytes: &mut Vec<u8>, name: &UText, value: &UText) -> Result<()
     push(bytes, b"\n")
 }
 
-fn push_thrown(
-    bytes: &mut Vec<u8>,
-    class: &UText,
-    message: &Option<UText>,
-) -> Result<(), NoMemory>
+fn push_thrown(bytes: &mut Vec<u8>, class: &UText, message: &Option<UText>) -> Result<(), NoMemory>
     ensures { OnOk result (bytes.new.items ≡ bytes.old.items ++ spec.thrown_line class.now message.now) }
 {
     push(bytes, b"|  Exception ")?;

@@ -121,11 +121,7 @@ fn push_variable(bytes: &mut Vec<u8>, submitted: &Submitted, now: Status) -> Res
     }
 }
 
-fn push_default(
-    bytes: &mut Vec<u8>,
-    name: &UText,
-    value: &Option<UText>,
-) -> Result<(), NoMemory>
+fn push_default(bytes: &mut Vec<u8>, name: &UText, value: &Option<UText>) -> Result<(), NoMemory>
     ensures { OnOk result (bytes.new.items ≡ bytes.old.items ++ spec.default_line name.now value.now) }
 {
     match value {
