@@ -1,11 +1,10 @@
 -- What a line asks for that is a command.
-use Rattle.std.specs.Prelude.{ℕ, List, [], ◌∷◌, Option, None, Some, option_map, codes, if◌then◌else◌}
+use Rattle.std.specs.Prelude.{ℕ, List, [], Option, None, Some, option_map, codes, if◌then◌else◌}
 use Rattle.std.specs.Option.{option_and_then}
 use Rattle.std.specs.Str.{bytes_eq}
 use Rattle.jsh_lex.specs.Spelling.{is_identifier}
 use Rattle.jsh_snippet.specs.declared.acts.Act.{Act}
 use Rattle.jsh_snippet.specs.declared.acts.Act.TheVariants as act
-use Rattle.jsh_snippet.specs.declared.acts.Question.{Question}
 use Rattle.jsh_snippet.specs.declared.acts.Question.TheVariants as question
 use Rattle.jsh_snippet.specs.declared.acts.Target.{Target}
 use Rattle.jsh_snippet.specs.declared.acts.Target.TheVariants as target

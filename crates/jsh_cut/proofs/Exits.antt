@@ -1,7 +1,6 @@
 -- Of all commands the exit is the last.
-use Rattle.std.proofs.Common.{◌≡◌, ℕ, zero, suc, Bool, true, false, not, ◌||◌, ◌&&◌, nat_lt, List, [], ◌∷◌, ◌++◌, length, drop, map, refl, sym, ap, ◌∙◌, append-nil}
+use Rattle.std.proofs.Common.{◌≡◌, ℕ, zero, suc, Bool, true, false, not, ◌&&◌, nat_lt, List, [], ◌∷◌, ◌++◌, length, drop, map, refl, ap, ◌∙◌, append-nil}
 use Rattle.std.specs.Prelude.{if◌then◌else◌, Option, None, Some}
-use Rattle.std.specs.List.{list_any, filter}
 use Rattle.jsh_tree.specs.Text.{most_source}
 use Rattle.jsh_complete.specs.declared.completion.Completeness.{Completeness}
 use Rattle.jsh_complete.specs.declared.completion.Completeness.TheVariants as completeness
@@ -12,7 +11,7 @@ use Rattle.jsh_cut.specs.declared.command.Command.{Command}
 use Rattle.jsh_cut.specs.declared.command.Command.TheVariants as command
 use Rattle.jsh_cut.specs.declared.held.Held.{Held}
 use Rattle.jsh_cut.specs.declared.held.Held.TheVariants as held
-use Rattle.jsh_cut.specs.Commands.{Gives, completion, source_of, submits, waits, first_source, by_kind, analyzed, ends_before, submitted_before, is_command_line, text_before, trimmed, by_act, by_command, by_text, with_commands, cut_line, onward, cut_lines, cut_end, cut_input, before_exit, exits, commands, is_the_exit, has_exit, without_exit}
+use Rattle.jsh_cut.specs.Commands.{Gives, completion, source_of, submits, by_kind, analyzed, ends_before, submitted_before, is_command_line, text_before, trimmed, by_act, by_command, by_text, with_commands, cut_line, onward, cut_lines, cut_end, cut_input, before_exit, exits, commands, has_exit, without_exit}
 
 -- ---- lists
 

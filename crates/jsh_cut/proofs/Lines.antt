@@ -1,12 +1,12 @@
 -- What one line more gives, case by case.
-use Rattle.std.proofs.Common.{◌≡◌, ℕ, suc, ◌+◌, ◌≤◌, List, [], ◌∷◌, ◌++◌, length, Bool, true, false, refl, sym, subst, arith, length-append}
+use Rattle.std.proofs.Common.{◌≡◌, ℕ, suc, ◌+◌, ◌≤◌, List, [], ◌∷◌, ◌++◌, length, Bool, true, false, refl, sym, arith, length-append}
 use Rattle.std.specs.Prelude.{◌||◌, if◌then◌else◌, Option, None, Some}
 use Rattle.jsh_snippet.specs.declared.acts.Act.{Act}
 use Rattle.jsh_commands.specs.Commands.{command as command_of, act_of}
 use Rattle.jsh_cut.specs.declared.command.Command.TheVariants as command
 use Rattle.jsh_cut.specs.declared.held.Held.{Held}
 use Rattle.jsh_cut.specs.declared.held.Held.TheVariants as held
-use Rattle.jsh_cut.specs.Commands.{Gives, completion, nothing_more, source_of, by_text, with_command, with_commands, held_text, is_command_line, is_slash_line, ends_before, text_before, trimmed, by_line, by_act, by_command, cut_line}
+use Rattle.jsh_cut.specs.Commands.{Gives, completion, nothing_more, source_of, by_text, with_command, held_text, is_command_line, is_slash_line, ends_before, text_before, trimmed, by_line, by_act, by_command, cut_line}
 use Rattle.jsh_lines.specs.Lines.{is_blank}
 use Rattle.jsh_complete.specs.declared.completion.Completeness.TheVariants as completeness
 use Rattle.jsh_cut.proofs.Blanks.{blank_empty, blank_more}

@@ -3,7 +3,6 @@ use Rattle.std.specs.Prelude.{ℕ, ◌-◌, Bool, ◌==◌, List, [], ◌∷◌,
 use Rattle.std.specs.List.{flat_map}
 use Rattle.jsh_text.specs.Utf.{utf8}
 use Rattle.jsh_text.specs.Value.{kind_text}
-use Rattle.jsh_text.specs.declared.value.KindName.{KindName}
 use Rattle.jsh_snippet.specs.declared.replies.Collected.{Collected}
 use Rattle.jsh_snippet.specs.declared.replies.Collected.TheVariants as «collected»
 use Rattle.jsh_snippet.specs.declared.replies.Outcome.{Outcome}

@@ -1,6 +1,6 @@
 //! The names that a snippet lacks.
 
-ghost use Rattle.std.specs.Prelude.{◌≡◌, ◌++◌, IfOk, OnOk};
+ghost use Rattle.std.specs.Prelude.{◌≡◌, ◌++◌, codes, IfOk, OnOk};
 ghost use Rattle.jsh_render.specs.Names as spec;
 
 use crate::text::push;
@@ -8,8 +8,17 @@ use jsh_text::NoMemory;
 use jsh_tree::Name;
 use std::alloc::Global;
 
+/// Adds what waits for the missing names: `g and x are declared` behind a text.
+pub fn push_waits(bytes: &mut Vec<u8>, before: &[u8], missing: &[Name]) -> Result<(), NoMemory>
+    ensures { OnOk result (bytes.new.items ≡ bytes.old.items ++ (before.now ++ spec.names_text missing.now ++ codes " declared")) }
+{
+    push(bytes, before)?;
+    push_names(bytes, missing)?;
+    push(bytes, b" declared")
+}
+
 /// Adds the missing names with their verb: `g and x are`.
-pub fn push_names(bytes: &mut Vec<u8>, names: &[Name]) -> Result<(), NoMemory>
+fn push_names(bytes: &mut Vec<u8>, names: &[Name]) -> Result<(), NoMemory>
     ensures { OnOk result (bytes.new.items ≡ bytes.old.items ++ spec.names_text names.now) }
 {
     let names = distinct(*bytes.allocator(), names)?;

@@ -5,7 +5,7 @@ ghost use Rattle.std.specs.List.{flat_map};
 ghost use Rattle.jsh_text.specs.Value.{kind_text};
 ghost use Rattle.jsh_render.specs.Outcomes as spec;
 
-use crate::names::push_names;
+use crate::names::push_waits;
 use crate::text::{push, push_decimal, push_text};
 use jsh_snippet::{Collected, Outcome};
 use jsh_text::{KindName, NoMemory, UText};
@@ -56,11 +56,7 @@ pub fn push_value(bytes: &mut Vec<u8>, name: &UText, value: &UText) -> Result<()
     push(bytes, b"\n")
 }
 
-fn push_thrown(
-    bytes: &mut Vec<u8>,
-    class: &UText,
-    message: &Option<UText>,
-) -> Result<(), NoMemory>
+fn push_thrown(bytes: &mut Vec<u8>, class: &UText, message: &Option<UText>) -> Result<(), NoMemory>
     ensures { OnOk result (bytes.new.items ≡ bytes.old.items ++ spec.thrown_line class.now message.now) }
 {
     push(bytes, b"|  Exception ")?;
@@ -111,12 +107,10 @@ fn push_attempt(bytes: &mut Vec<u8>, name: &UText) -> Result<(), NoMemory>
 fn push_reason(bytes: &mut Vec<u8>, missing: &[Name]) -> Result<(), NoMemory>
     ensures { OnOk result (bytes.new.items ≡ bytes.old.items ++ spec.reason missing.now) }
 {
-    if missing.is_empty() {
-        return push(bytes, b"which has errors");
+    match missing {
+        [] => push(bytes, b"which has errors"),
+        _ => push_waits(bytes, b"which cannot be invoked until ", missing),
     }
-    push(bytes, b"which cannot be invoked until ")?;
-    push_names(bytes, missing)?;
-    push(bytes, b" declared")
 }
 
 /// Adds a number between texts.

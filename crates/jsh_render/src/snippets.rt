@@ -1,15 +1,14 @@
 //! Lines for a snippet that is handed in or taken back.
 
-ghost use Rattle.std.specs.Prelude.{◌≡◌, ◌++◌, codes, OnOk};
+ghost use Rattle.std.specs.Prelude.{◌≡◌, ◌++◌, OnOk};
 ghost use Rattle.std.specs.List.{flat_map};
 ghost use Rattle.jsh_text.specs.Utf.{utf8};
 ghost use Rattle.jsh_render.specs.Diagnostics.{error_line};
-ghost use Rattle.jsh_render.specs.Names.{names_text};
 ghost use Rattle.jsh_render.specs.Snippets as spec;
 
 use crate::diagnostics::error_in;
 use crate::events::{overwrites, push_events};
-use crate::names::push_names;
+use crate::names::push_waits;
 use crate::outcomes::push_value;
 use crate::text::{push, push_decimal, push_text};
 use crate::words::modifier_word;
@@ -122,11 +121,7 @@ fn push_variable(bytes: &mut Vec<u8>, submitted: &Submitted, now: Status) -> Res
     }
 }
 
-fn push_default(
-    bytes: &mut Vec<u8>,
-    name: &UText,
-    value: &Option<UText>,
-) -> Result<(), NoMemory>
+fn push_default(bytes: &mut Vec<u8>, name: &UText, value: &Option<UText>) -> Result<(), NoMemory>
     ensures { OnOk result (bytes.new.items ≡ bytes.old.items ++ spec.default_line name.now value.now) }
 {
     match value {
@@ -186,14 +181,6 @@ fn push_however(bytes: &mut Vec<u8>, now: Status, missing: &[Name]) -> Result<()
         }
         _ => Ok(()),
     }
-}
-
-fn push_waits(bytes: &mut Vec<u8>, what: &[u8], missing: &[Name]) -> Result<(), NoMemory>
-    ensures { OnOk result (bytes.new.items ≡ bytes.old.items ++ (what.now ++ names_text missing.now ++ codes " declared")) }
-{
-    push(bytes, what)?;
-    push_names(bytes, missing)?;
-    push(bytes, b" declared")
 }
 
 /// Adds all that is said of a snippet that is taken back.

@@ -318,11 +318,7 @@ const ATTEMPTS: [(&str, &[&str], &str); 5] = [
         &["f", "g", "x"],
         "|  attempted to use class A which cannot be invoked until f, g and x are declared\n",
     ),
-    (
-        "f()",
-        &[],
-        "|  attempted to call f() which has errors\n",
-    ),
+    ("f()", &[], "|  attempted to call f() which has errors\n"),
     (
         "class A",
         &[],
@@ -350,7 +346,10 @@ fn tells_ends(rt: HostRuntime) -> Result<(), Fail> {
     let stopped = ended(alloc, Outcome::Stopped { by: 2 })?;
     assert_eq!(rt; stopped.as_slice(), b"|  stopped by client 2\n".as_slice());
     let spent = ended(alloc, Outcome::Spent { steps: 1000 })?;
-    assert_eq!(rt; spent.as_slice(), b"|  stopped after 1000 steps\n".as_slice());
+    assert_eq!(rt;
+        spent.as_slice(),
+        b"|  stopped after 1000 steps\n".as_slice()
+    );
     let wanted = KindName::Int;
     let found = KindName::Text;
     let wrong = ended(alloc, Outcome::Wrong { wanted, found })?;

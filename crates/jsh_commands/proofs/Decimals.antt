@@ -1,10 +1,10 @@
 -- What std's `parse` says of a decimal number.
-use Rattle.std.proofs.Common.{◌≡◌, ℕ, ◌<◌, ◌^◌, Bool, true, false, ◌&&◌, List, length, None, Some, refl, ap, ◌∙◌, arith, rules}
-use Rattle.std.specs.Prelude.{if◌then◌else◌, nat_lt, not, Result, Ok, Err, MatchResult}
+use Rattle.std.proofs.Common.{◌≡◌, ℕ, ◌<◌, ◌^◌, Bool, true, false, ◌&&◌, List, length, None, Some, refl, arith, rules}
+use Rattle.std.specs.Prelude.{nat_lt, not, Result, Ok, Err, MatchResult}
 use Rattle.std.specs.Char.{is_ascii_digit}
 use Rattle.std.specs.List.{list_all}
 use Rattle.std.specs.Str.Parse.{ParsesUnsigned, digits_value}
-use Rattle.std.proofs.lemmas.Bool.{lt-ltb, le-ltb}
+use Rattle.std.proofs.lemmas.Bool.{lt-ltb}
 use Rattle.std.proofs.lemmas.Bool.Decides.{nat_tests}
 use Rattle.std.proofs.lemmas.Str.Parse.{IsNumeralModel, numerals_by_value, parse_digits}
 use Rattle.jsh_commands.specs.Numbers.{has_leading_zero, is_decimal, number}
@@ -32,16 +32,13 @@ some text e =
 pub parsed : {E : Type 0} (text : List ℕ) (r : Result ℕ E) → ParsesUnsigned 32 10 text r → is_decimal text ≡ true →
     MatchResult r (λ v. number text ≡ Some v) (λ e. number text ≡ None)
 unfolding number
-parsed text (Ok v) h is =
-    let gives = parse_digits own 32 text (Ok v) h (digits text is) in
+parsed {E = E} text (Ok v) h is =
+    let gives = parse_digits own {E = E} 32 text (Ok v) h (digits text is) in
     rw (is, lt-ltb (digits_value 10 text) (2 ^ 32) gives.0.1, gives.1) refl
-parsed text (Err e) h is =
-    let gives = parse_digits own 32 text (Err e) h (digits text is) in
-    by (nat_lt (digits_value 10 text) (2 ^ 32)) refl
+parsed {E = E} text (Err e) h is = by (nat_lt (digits_value 10 text) (2 ^ 32)) refl
   where
     by : (small : Bool) → nat_lt (digits_value 10 text) (2 ^ 32) ≡ small → number text ≡ None
-    unfolding number
-    by true small = absurd (gives (some text is, grind (arith, nat_tests)))
+    by true small = absurd (parse_digits own {E = E} 32 text (Err e) h (digits text is) (some text is, grind (arith, nat_tests)))
     by false small = rw (is, small) refl
 
 pub no_number : (text : List ℕ) → is_decimal text ≡ false → number text ≡ None
