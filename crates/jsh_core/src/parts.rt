@@ -13,23 +13,33 @@ use jsh_text::{NoMemory, Value};
 /// What the one-thread engine keeps beside its history.
 #[derive(Drop)]
 pub struct Parts {
+    /// The snippets since the last reset.
     pub book: Vec<Record>,
-    /// The number of the published generation.
-    pub generation: u64,
+    pub generation: GenerationParts,
     pub world: WorldParts,
     /// For each client that was numbered, whether it is still there.
     pub clients: Vec<bool>,
 }
 
+/// What is in force.
+#[derive(Drop)]
+pub struct GenerationParts {
+    pub number: u64,
+    /// By rising numbers of their records.
+    pub live: Vec<Live>,
+}
+
 /// What snippets work on while they run.
 #[derive(Drop)]
 pub struct WorldParts {
-    /// For each record, the value of the variable that it declares, if it declares one.
-    pub cells: Vec<Option<Value>>,
+    /// In the order in which their links were given.
+    pub cells: Vec<Cell>,
     /// The state of thread i + 1 stands at place i, and so for what it runs.
     pub states: Vec<ThreadState>,
     pub threads: Vec<Thread>,
     pub runs: Vec<Run>,
+    /// For each client, what its threads have printed and no reply has handed over.
+    pub pending: Vec<UText>,
     /// How many threads are alive.
     pub alive: usize,
 }
