@@ -2,8 +2,12 @@
 #![tactic(auto)]
 
 mod acts;
+mod cells;
 mod clients;
+mod delivery;
+mod drops;
 mod engine;
+mod generation;
 mod limits;
 mod lists;
 mod log;
