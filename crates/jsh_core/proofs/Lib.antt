@@ -1,12 +1,9 @@
 pub mod Bounds
-pub mod ClientLemmas
-pub mod StandsLemmas
+-- pub mod StandsLemmas
 pub mod TurnLemmas
-pub mod CauseLemmas
-pub mod FateLemmas
 pub mod WorldLemmas
-pub mod Evaluation
-pub mod Picking
-pub mod ActLemmas
-pub mod KeptLemmas
-pub mod Steps
+-- pub mod ActLemmas
+-- pub mod KeptLemmas
+pub mod CellLemmas
+pub mod StepBounds
+pub mod TurnedParts
