@@ -34,6 +34,7 @@ pub record IsWorld (w : WorldParts) : Type 0 where
 pub record IsSound (p : Parts) : Type 0 where
   pub world : IsWorld p.world
   pub book : length p.book.items ≤ most_records
+  pub live : length p.generation.live.items ≤ length p.book.items
   pub clients : length p.clients.items ≤ most_clients
   pub pending : length p.world.pending.items ≡ length p.clients.items
 
