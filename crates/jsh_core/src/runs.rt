@@ -246,7 +246,8 @@ fn expire_own(
     ensures within { (entries : ℕ) → IsWithin entries parts.old → IsWithin entries parts.new }
 {
     if is_thread_alive(&parts.world, run.main) {
-        give_up(parts, alloc, number, run, Outcome::Spent { steps })
+        let outcome = Outcome::Spent { steps };
+        give_up(parts, alloc, number, run, outcome)
     } else {
         hand_over(parts, alloc, number, run)
     }
@@ -294,14 +295,14 @@ pub fn stop_run(parts: &mut Parts, alloc: Global, client: u32, number: u32) -> R
     ensures sound { IsSound parts.new }
     ensures within { (entries : ℕ) → IsWithin entries parts.old → IsWithin entries parts.new }
 {
-    let run = match at_number(&parts.world.runs, number) {
+    let found = match at_number(&parts.world.runs, number) {
         None => return ReplyBody::Refused(Refusal::NoSuchRun { run: number }),
-        Some(run) => *run,
+        Some(found) => *found,
     };
-    if run.gone {
+    if found.gone {
         return ReplyBody::Refused(Refusal::NoSuchRun { run: number });
     }
-    stop_found(parts, alloc, client, number, run);
+    stop_found(parts, alloc, client, number, found);
     ReplyBody::StopDone { run: number }
 }
 
