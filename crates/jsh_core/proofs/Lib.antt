@@ -8,3 +8,9 @@ pub mod DeliveryLemmas
 pub mod ActLemmas
 pub mod StandsLemmas
 pub mod KeptLemmas
+pub mod ListLemmas
+pub mod StopLemmas
+pub mod RunLemmas
+pub mod DropLemmas
+pub mod QuestionLemmas
+pub mod WithinLemmas
