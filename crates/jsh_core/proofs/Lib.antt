@@ -14,3 +14,4 @@ pub mod RunLemmas
 pub mod DropLemmas
 pub mod QuestionLemmas
 pub mod WithinLemmas
+pub mod SnippetLemmas
