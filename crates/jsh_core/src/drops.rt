@@ -28,7 +28,7 @@ fn live_of(generation: &GenerationParts, id: u32) -> Option<&Live>
 
 /// The status of a record that may be taken back.
 fn status_before(live: Option<&Live>) -> Status
-    ensures { result ≡ spec.status_before (option_copied live) }
+    ensures { result ≡ spec.status_before (option_copied live.entry) }
 {
     match live {
         None => Status::Valid,
@@ -38,7 +38,7 @@ fn status_before(live: Option<&Live>) -> Status
 
 /// Whether a declaration with a link loses it.
 fn loses_link(live: Option<&Live>) -> bool
-    ensures { result ≡ spec.loses_link (option_copied live) }
+    ensures { result ≡ spec.loses_link (option_copied live.entry) }
 {
     match live {
         None => false,
@@ -48,7 +48,7 @@ fn loses_link(live: Option<&Live>) -> bool
 
 /// The event of a record that is taken back.
 fn drop_event(alloc: Global, id: u32, live: Option<&Live>) -> Result<Event, NoMemory>
-    ensures { IfOk result (λ event. event ≡ spec.drop_event id (option_copied live)) }
+    ensures { IfOk result (λ event. event ≡ spec.drop_event id (option_copied live.entry)) }
 {
     Ok(Event {
         id,
