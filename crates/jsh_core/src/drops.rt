@@ -151,9 +151,12 @@ fn only_named(live: &[Live], name: &Name) -> Result<u32, usize>
     ensures few { IfErr result (λ count. count ≤ length live.now) }
 {
     let count = live.iter().filter(|live| declares(live, name)).count();
+    if count != 1 {
+        return Err(count);
+    }
     match live.iter().find(|live| declares(live, name)) {
-        Some(found) if count == 1 => Ok(found.id),
-        _ => Err(count),
+        None => Err(count),
+        Some(found) => Ok(found.id),
     }
 }
 
