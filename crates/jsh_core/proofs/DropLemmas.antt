@@ -3,8 +3,10 @@ use Rattle.std.proofs.Common.{◌≡◌, ℕ, zero, suc, ◌+◌, ◌<◌, ◌�
 use Rattle.std.specs.List.{slice_get}
 use Rattle.jsh_snippet.specs.declared.replies.Refusal.TheVariants as refusal
 use Rattle.jsh_core.specs.declared.generation.Live.{Live}
-use Rattle.jsh_core.specs.State.{State, refuses}
-use Rattle.jsh_core.specs.Drops.{drop_id, drop_only}
+use Rattle.std.specs.Option.{is_some}
+use Rattle.jsh_core.specs.State.{Generation, State, refuses}
+use Rattle.jsh_core.specs.Generations.{without}
+use Rattle.jsh_core.specs.Drops.{drop_id, drop_only, generation_without}
 
 -- the first item that is found is the first that is filtered
 pub find-filter : {A : Type 0} (p : A → Bool) (xs : List A) → find p xs ≡ slice_get (filter p xs) 0
@@ -53,3 +55,13 @@ found-one p xs one none = from (filter p xs) one (sym (find-filter p xs) ∙ non
 pub drop_only-one : (s : State) (name : List ℕ) (p : Live → Bool) (xs : List Live) (live : Live) → length (filter p xs) ≡ 1 → find p xs ≡ Some live →
     drop_only s name (filter p xs) ≡ drop_id s live.id
 drop_only-one s name p xs live one found = rw (only-found p xs live one found) refl
+
+-- a declaration that is in force goes
+pub without_some : (g : Generation) (id : ℕ) (found : Option Live) → is_some found ≡ true → generation_without g id found ≡ without g id
+without_some g id None is = cc
+without_some g id (Some live) is = refl
+
+-- one that isn't stays away
+pub without_none : (g : Generation) (id : ℕ) (found : Option Live) → is_some found ≡ false → generation_without g id found ≡ g
+without_none g id None is = refl
+without_none g id (Some live) is = cc

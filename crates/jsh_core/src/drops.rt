@@ -1,7 +1,7 @@
 //! How a snippet is taken back.
 
-ghost use Rattle.std.specs.Prelude.{◌≡◌, ℕ, ◌+◌, ◌<◌, ◌≤◌, ◌^◌, ◌∷◌, [], filter, length, IfErr, IfOk, IfSome, IsSome, OnErr};
-ghost use Rattle.std.specs.Option.{option_copied};
+ghost use Rattle.std.specs.Prelude.{◌≡◌, ℕ, ◌+◌, ◌<◌, ◌≤◌, ◌^◌, ◌∷◌, [], filter, find, length, IfErr, IfOk, IfSome, IsSome, OnErr};
+ghost use Rattle.std.specs.Option.{is_some, option_copied};
 ghost use Rattle.jsh_snippet.specs.declared.records.Record.{Record};
 ghost use Rattle.jsh_snippet.specs.declared.replies.Refusal.TheVariants as refusal;
 ghost use Rattle.jsh_snippet.specs.declared.replies.ReplyBody.TheVariants as body;
@@ -81,14 +81,25 @@ fn drop_reply(alloc: Global, generation: &GenerationParts, id: u32, kind: Kind) 
     })
 }
 
+/// Whether the declaration of a record is in force.
+fn is_live(generation: &GenerationParts, id: u32) -> bool
+    ensures { result ≡ is_some (spec.live_of (generation_of generation.now) id) }
+{
+    match live_of(generation, id) {
+        None => false,
+        Some(_) => true,
+    }
+}
+
 /// The declaration of a record isn't in force any more. Where it isn't in force, nothing changes.
+#[tactic(auto, using(crate::proofs::DropLemmas::without_none))]
 fn remove_live(generation: &mut GenerationParts, id: u32)
     requires { generation.old.number + 1 < 2 ^ 64 }
     ensures after { generation_of generation.new ≡ spec.generation_without (generation_of generation.old) id (spec.live_of (generation_of generation.old) id) }
     ensures number { generation.new.number ≤ generation.old.number + 1 }
     ensures live { length generation.new.live.items ≤ length generation.old.live.items }
 {
-    if live_of(generation, id).is_none() {
+    if !is_live(generation, id) {
         return;
     }
     generation.number += 1;
@@ -144,17 +155,31 @@ fn declares(live: &Live, name: &Name) -> bool
     }
 }
 
+/// How many declarations have a name.
+fn count_named(live: &[Live], name: &Name) -> usize
+    ensures { result ≡ length (filter (has_name name.now) live.now) }
+{
+    live.iter().filter(|live| declares(live, name)).count()
+}
+
+/// The first declaration that has a name.
+fn first_named<'a>(live: &'a [Live], name: &Name) -> Option<&'a Live>
+    ensures { option_copied result ≡ find (has_name name.now) live.now }
+{
+    live.iter().find(|live| declares(live, name))
+}
+
 /// The record of the only declaration that has a name, or how many have it.
 fn only_named(live: &[Live], name: &Name) -> Result<u32, usize>
     ensures one { IfOk result (λ id. (s : State) → spec.drop_only s name.now (filter (has_name name.now) live.now) ≡ spec.drop_id s id) }
     ensures other { IfErr result (λ count. (s : State) → spec.drop_only s name.now (filter (has_name name.now) live.now) ≡ refuses s (refusal.NoSuchName name.now count)) }
     ensures few { IfErr result (λ count. count ≤ length live.now) }
 {
-    let count = live.iter().filter(|live| declares(live, name)).count();
+    let count = count_named(live, name);
     if count != 1 {
         return Err(count);
     }
-    match live.iter().find(|live| declares(live, name)) {
+    match first_named(live, name) {
         None => Err(count),
         Some(found) => Ok(found.id),
     }

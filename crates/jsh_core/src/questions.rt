@@ -1,6 +1,6 @@
 //! What a question is answered.
 
-ghost use Rattle.std.specs.Prelude.{◌≡◌, ◌∷◌, ◌++◌, [], codes, length, map, filter, option_map, IfOk, OnOk};
+ghost use Rattle.std.specs.Prelude.{◌≡◌, ◌∷◌, ◌++◌, [], length, map, filter, option_map, IfOk, OnOk};
 ghost use Rattle.std.specs.List.{flat_map, repeat};
 ghost use Rattle.std.specs.Option.{option_to_list};
 ghost use Rattle.jsh_snippet.specs.Names.{type_text};
@@ -21,11 +21,12 @@ use jsh_text::{NoMemory, UText, Value, print_int, print_unsigned, push_unsigned}
 use jsh_tree::{Key, Link, Seq, TypeWritten};
 use std::alloc::Global;
 
-fn push_blanks(text: &mut UText, count: usize) -> Result<(), NoMemory>
-    ensures { OnOk result (text.new ≡ text.old ++ repeat count (32 ∷ [])) }
+/// A text so many times.
+fn push_repeated(text: &mut UText, count: usize, part: &[u8]) -> Result<(), NoMemory>
+    ensures { OnOk result (text.new ≡ text.old ++ repeat count part.now) }
 {
-    for _blank in 0..count {
-        text.push(b' ' as u16)?;
+    for _time in 0..count {
+        text.push_latin1(part)?;
     }
     Ok(())
 }
@@ -35,7 +36,7 @@ fn push_right(text: &mut UText, alloc: Global, places: usize, number: u32) -> Re
     ensures { OnOk result (text.new ≡ text.old ++ spec.right places number) }
 {
     let digits = print_unsigned(alloc, number as u64)?;
-    push_blanks(text, places.saturating_sub(digits.len()))?;
+    push_repeated(text, places.saturating_sub(digits.len()), b" ")?;
     text.append(&digits)
 }
 
@@ -114,20 +115,11 @@ fn push_value(text: &mut UText, alloc: Global, value: &Value) -> Result<(), NoMe
     }
 }
 
-fn push_brackets(text: &mut UText, pairs: u32) -> Result<(), NoMemory>
-    ensures { OnOk result (text.new ≡ text.old ++ repeat pairs (codes "[]")) }
-{
-    for _pair in 0..pairs {
-        text.push_latin1(b"[]")?;
-    }
-    Ok(())
-}
-
 fn push_type(text: &mut UText, written: &TypeWritten) -> Result<(), NoMemory>
     ensures { OnOk result (text.new ≡ text.old ++ type_text written.now) }
 {
     text.push_str(written.name.as_str())?;
-    push_brackets(text, written.dims)
+    push_repeated(text, written.dims as usize, b"[]")
 }
 
 /// The type of a variable that is fixed with its record.

@@ -3,4 +3,4 @@ use Rattle.jsh_core.specs.Questions.{further_line}
 use Rattle.jsh_core.proofs.questions.push_indented.Given as goal
 
 abbrev pub invariant-loop-unit : goal.invariant-loop-unit
-invariant-loop-unit l = l.text ≡ l.initial.text ++ flat_map further_line (take l.unit-index l.units)
+invariant-loop-unit l = l.text ≡ l.initial.text ++ flat_map further_line (take l.unit-index l.unit-items)
