@@ -1,4 +1,4 @@
--- What becomes of runs in a history: they are made, and collected or dropped.
+-- What becomes of runs in a history: they are made, and collected, given up or dropped.
 use Rattle.std.specs.Prelude.{◌≡◌, ℕ, ◌⊎◌, List, [], ◌∷◌, Bool, true, false, Some}
 use Rattle.jsh_snippet.specs.declared.acts.Act.{Act}
 use Rattle.jsh_snippet.specs.declared.acts.Act.TheVariants as act
@@ -19,14 +19,22 @@ is_over answered = false
 abbrev pub Makes : State → Entry → ℕ → ℕ → Type 0
 Makes s entry owner number = (entry.client ≡ owner) × (run_of (step s entry).reply.body ≡ Some number)
 
--- the entry is this client's, and is its leave or hands out this run
+-- this client hands in an act on a run that hands it out
+pub record HandsOut (client owner asked number : ℕ) (answered : ReplyBody) : Type 0 where
+  pub own : client ≡ owner
+  pub same : asked ≡ number
+  pub over : is_over answered ≡ true
+
+-- the entry takes a run of this client away: it is its own leave, or hands the run out to it, or it is anyone's reset
 abbrev pub TakesAway : State → Entry → ℕ → ℕ → Type 0
-TakesAway s entry owner number = (entry.client ≡ owner) × Takes entry.act number (step s entry).reply.body
+TakesAway s entry owner number = Takes entry.client entry.act owner number (step s entry).reply.body
   where
-    Takes : Act → ℕ → ReplyBody → Type 0
-    Takes act.Leave number answered = Unit {0}
-    Takes (act.Collect run) number answered = (run ≡ number) × (is_over answered ≡ true)
-    Takes _ number answered = ⊥
+    Takes : ℕ → Act → ℕ → ℕ → ReplyBody → Type 0
+    Takes client act.Leave owner number answered = client ≡ owner
+    Takes client (act.Collect run) owner number answered = HandsOut client owner run number answered
+    Takes client (act.Expire run steps) owner number answered = HandsOut client owner run number answered
+    Takes client act.Reset owner number answered = Unit {0}
+    Takes client _ owner number answered = ⊥
 
 -- no entry takes the run away
 abbrev pub Stays : State → List Entry → ℕ → ℕ → Type 0
@@ -39,6 +47,6 @@ WasMade s [] owner number = ⊥
 WasMade s (entry ∷ entries) owner number =
     (Makes s entry owner number × Stays (step s entry).state entries owner number) ⊎ WasMade (step s entry).state entries owner number
 
--- a history has a run of this client with this number: it was made, and was neither collected nor dropped
+-- a history has a run of this client with this number: it was made, and was neither collected, given up nor dropped
 unfoldable pub HasRun : List Entry → ℕ → ℕ → Type 0
 HasRun history owner number = WasMade opening history owner number
