@@ -1,6 +1,7 @@
 -- Items by their numbers: what is found in a list that has grown, was written to, or was mapped.
 use Rattle.std.proofs.Common.{◌≡◌, ◌≢◌, ℕ, zero, suc, ◌+◌, ◌-◌, ◌<◌, ◌≤◌, ◌==◌, ◌⊎◌, inl, inr, Bool, true, false, List, [], ◌∷◌, ◌++◌, map, set, Option, None, Some, length, refl, ap, sym, ◌∙◌, arith, cond}
 use Rattle.std.specs.List.{slice_get}
+use Rattle.std.proofs.lemmas.Bool.{eqb-true}
 use Rattle.std.proofs.lemmas.Option.{slice_get_within}
 use Rattle.jsh_core.specs.State.{numbered}
 use Rattle.jsh_core.proofs.WorldLemmas.{numbered-place, numbered-positive}
@@ -125,8 +126,11 @@ slice_get-there (x ∷ xs) (suc i) less = slice_get-there xs i (omega arith)
 
 -- each number from 1 to the length is that of an item
 pub numbered-there : {A : Type 0} (items : List A) (number : ℕ) → 0 < number → number ≤ length items → (item : A) × (numbered items number ≡ Some item)
-numbered-there items zero some within = absurd (omega arith)
-numbered-there items (suc k) some within = slice_get-there items k (omega arith)
+numbered-there {A} items number some within = from (number == 0) refl
+  where
+    from : (first : Bool) → (number == 0) ≡ first → (item : A) × (cond first None (slice_get items (number - 1)) ≡ Some item)
+    from true z = let none : number ≡ 0 = eqb-true number 0 z in absurd (omega arith)
+    from false z = slice_get-there items (number - 1) (omega arith)
 
 -- what is found by a number is found in a list of the same length
 pub numbered-beside : {A B : Type 0} (items : List A) (others : List B) (number : ℕ) (item : A) → length others ≡ length items → numbered items number ≡ Some item →
