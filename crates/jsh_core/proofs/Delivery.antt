@@ -24,14 +24,14 @@ pub record IsDelivered (acted : Acted) (after : Stepped) : Type 0 where
   pub pending : length after.state.world.pending ≡ length acted.state.world.pending
 
 -- the reply with what the client's threads have printed
-abbrev handed : ℕ → Acted → Stepped
+abbrev pub handed : ℕ → Acted → Stepped
 handed client acted = record {
   state = record acted.state { world = record acted.state.world { pending = set acted.state.world.pending client [] } };
   reply = record { output = pending_of acted.state.world client; body = acted.body };
 }
 
 -- the reply without it
-abbrev withheld : Acted → Stepped
+abbrev pub withheld : Acted → Stepped
 withheld acted = record { state = acted.state; reply = record { output = []; body = acted.body } }
 
 pub delivers : (client : ℕ) (acted : Acted) → IsDelivered acted (delivered client acted)

@@ -91,7 +91,7 @@ pub data OnOwnRun (s : State) (client number : ℕ) (act : Run → Acted) (acted
   absent : run_view s number ≡ None → acted ≡ refuses s (refusal.NoSuchRun number) → OnOwnRun s client number act acted
   foreign : (run : Run) → numbered s.world.runs number ≡ Some run → run.gone ≡ false → run.owner ≢ client →
       acted ≡ refuses s (refusal.NotOwner run.owner) → OnOwnRun s client number act acted
-  own : (run : Run) → IsOwnRun s client number run → acted ≡ act run → OnOwnRun s client number act acted
+  owned : (run : Run) → IsOwnRun s client number run → acted ≡ act run → OnOwnRun s client number act acted
 
 pub view-own_run : (s : State) (client number : ℕ) (act : Run → Acted) (found : Option Run) → numbered s.world.runs number ≡ found →
     OnOwnRun s client number act (on_own_run s client number found act)
@@ -101,7 +101,7 @@ view-own_run s client number act (Some run) is = from run.gone (run.owner == cli
     from : (gone mine : Bool) → run.gone ≡ gone → (run.owner == client) ≡ mine →
         OnOwnRun s client number act (cond gone (refuses s (refusal.NoSuchRun number)) (cond mine (act run) (refuses s (refusal.NotOwner run.owner))))
     from true mine is_gone is_mine = absent (gone-unseen s number run is is_gone) refl
-    from false true is_gone is_mine = own run (record { found = is; there = is_gone; owner = eqb-true run.owner client is_mine }) refl
+    from false true is_gone is_mine = owned run (record { found = is; there = is_gone; owner = eqb-true run.owner client is_mine }) refl
     from false false is_gone is_mine = foreign run is is_gone (eqb-false run.owner client is_mine) refl
 
 pub data Collects (s : State) (client number : ℕ) (acted : Acted) : Type 0 where
@@ -130,7 +130,7 @@ view-collect s client number = from (view-own_run s client number (collect_own s
     from : OnOwnRun s client number (collect_own s number) (collect s client number) → Collects s client number (collect s client number)
     from (absent none is) = absent none is
     from (foreign run found there other is) = foreign run found there other is
-    from (own run mine is) = on run mine (collect s client number) is
+    from (owned run mine is) = on run mine (collect s client number) is
 
 pub data Expires (s : State) (client number steps : ℕ) (acted : Acted) : Type 0 where
   absent : run_view s number ≡ None → acted ≡ refuses s (refusal.NoSuchRun number) → Expires s client number steps acted
@@ -154,12 +154,12 @@ view-expire s client number steps = from (view-own_run s client number (expire_o
     from : OnOwnRun s client number (expire_own s steps number) (expire s client number steps) → Expires s client number steps (expire s client number steps)
     from (absent none is) = absent none is
     from (foreign run found there other is) = foreign run found there other is
-    from (own run mine is) = on run mine (expire s client number steps) is
+    from (owned run mine is) = on run mine (expire s client number steps) is
 
 -- a run that is stopped, or was over before
 pub data Stops (s : State) (client number : ℕ) (acted : Acted) : Type 0 where
   absent : run_view s number ≡ None → acted ≡ refuses s (refusal.NoSuchRun number) → Stops s client number acted
-  there : (run : Run) → numbered s.world.runs number ≡ Some run → run.gone ≡ false →
+  standing : (run : Run) → numbered s.world.runs number ≡ Some run → run.gone ≡ false →
       acted ≡ record { state = stop_run s client number run; body = body.StopDone number } → Stops s client number acted
 
 pub view-stop : (s : State) (client number : ℕ) → Stops s client number (stop s client number)
@@ -172,7 +172,7 @@ view-stop s client number = from (numbered s.world.runs number) refl
         by_gone : (gone : Bool) → run.gone ≡ gone →
             Stops s client number (cond gone (refuses s (refusal.NoSuchRun number)) (record { state = stop_run s client number run; body = body.StopDone number }))
         by_gone true e = absent (gone-unseen s number run is e) refl
-        by_gone false e = there run is e refl
+        by_gone false e = standing run is e refl
 
 -- a snippet that is taken back by its number
 pub data DropsId (s : State) (id : ℕ) (acted : Acted) : Type 0 where
