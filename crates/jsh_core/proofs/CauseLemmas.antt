@@ -253,9 +253,9 @@ foreign-refusal s client number run found there other = record {
     its_own = record { found = found; there = there; owner = refl }
 
 -- an own run that is there is not refused
-own-refusal : (s : State) (client number : ℕ) (run : Run) (answered : ReplyBody) → IsOwnRun s client number run → ((why : Refusal) → answered ≡ body.Refused why → ⊥) →
-    CausesOfRefusal s client number answered
-own-refusal s client number run answered own free = record {
+own-refusal : (s : State) (client number : ℕ) (run : Run) (told : ReplyBody) → IsOwnRun s client number run → ((why : Refusal) → told ≡ body.Refused why → ⊥) →
+    CausesOfRefusal s client number told
+own-refusal s client number run told own free = record {
   no_such_run = (λ a. absurd (free _ a), λ none. absurd (unseen-unowned s client number run none own));
   not_owner = λ owner. (λ a. absurd (free _ a), λ c. absurd (c.0 (owner-same s client owner number run own c.1)));
 }
@@ -266,13 +266,13 @@ run-same : (s : State) (client number : ℕ) (run other : Run) → IsOwnRun s cl
 run-same s client number run other own o = let both : Some other ≡ Some run = sym o.found ∙ own.found in cc
 
 -- no answer of a run that has ended
-no-end : (s : State) (client number : ℕ) (answered : ReplyBody) → ((id : ℕ) (run : Run) → ¬ IsEndedRun s client number id run) →
-    ((id : ℕ) (text : List ℕ) → answered ≢ over_with id (outcome.Value text)) → ((id : ℕ) → answered ≢ over_with id outcome.Finished) →
-    ((id by : ℕ) → answered ≢ over_with id (outcome.Stopped by)) → CausesOfEnd s client number answered
-no-end s client number answered none value finished stopped = record {
-  value = λ id text. (λ a. absurd (value id text a), λ c. absurd (none id c.0 c.1));
-  finished = λ id. (λ a. absurd (finished id a), λ c. absurd (none id c.0 c.1));
-  stopped = λ id by. (λ a. absurd (stopped id by a), λ c. absurd (none id c.0 c.1));
+no-end : (s : State) (client number : ℕ) (told : ReplyBody) → ((id : ℕ) (run : Run) → ¬ IsEndedRun s client number id run) →
+    ((id : ℕ) (text : List ℕ) → told ≢ over_with id (outcome.Value text)) → ((id : ℕ) → told ≢ over_with id outcome.Finished) →
+    ((id by : ℕ) → told ≢ over_with id (outcome.Stopped by)) → CausesOfEnd s client number told
+no-end s client number told none no_value no_finish no_stop = record {
+  value = λ id text. (λ a. absurd (no_value id text a), λ c. absurd (none id c.0 c.1));
+  finished = λ id. (λ a. absurd (no_finish id a), λ c. absurd (none id c.0 c.1));
+  stopped = λ id by. (λ a. absurd (no_stop id by a), λ c. absurd (none id c.0 c.1));
 }
 
 alive-unended : (s : State) (client number : ℕ) (run : Run) → IsOwnRun s client number run → is_thread_alive s.world run.main ≡ true →

@@ -4,7 +4,7 @@ use Rattle.std.specs.Prelude.{◌||◌}
 use Rattle.std.specs.List.{All, list_any, slice_get}
 use Rattle.std.specs.Option.{option_map_or, option_or}
 use Rattle.std.proofs.lemmas.Bool.{eqb-true}
-use Rattle.std.proofs.lemmas.List.Elements.{All-filter}
+use Rattle.std.proofs.lemmas.List.Elements.{All-cons, All-filter, All-head, All-nil, All-tail, All-weaker}
 use Rattle.std.proofs.lemmas.Option.{slice_get_within, get_or_from_slice_get}
 use Rattle.jsh_sched.specs.declared.ThreadState.{ThreadState}
 use Rattle.jsh_sched.specs.declared.ThreadState.TheVariants as thread_state
@@ -34,33 +34,32 @@ IsReadyFrom first states thread = (place : ℕ) × ((state : ThreadState) × (th
 
 ready_later : (first : ℕ) (state : ThreadState) (states : List ThreadState) (threads : List ℕ) → All (IsReadyFrom (first + 1) states) threads →
     All (IsReadyFrom first (state ∷ states)) threads
-ready_later first state states [] all = tt
-ready_later first state states (thread ∷ threads) all = (one all.0, ready_later first state states threads all.1)
+ready_later first state states threads all = All-weaker (IsReadyFrom (first + 1) states) (IsReadyFrom first (state ∷ states)) one threads all
   where
-    one : IsReadyFrom (first + 1) states thread → IsReadyFrom first (state ∷ states) thread
-    one (place, (found, is, at, ready)) = (suc place, (found, omega arith, at, ready))
+    one : (thread : ℕ) → IsReadyFrom (first + 1) states thread → IsReadyFrom first (state ∷ states) thread
+    one thread (place, (found, is, at, ready)) = (suc place, (found, omega arith, at, ready))
 
 -- each ready thread is one
 all_ready : (first : ℕ) (states : List ThreadState) → All (IsReadyFrom first states) (ready_from first states)
-all_ready first [] = tt
+all_ready first [] = All-nil (IsReadyFrom first [])
 all_ready first (state ∷ states) = from (is_ready state) refl (ready_later first state states (ready_from (first + 1) states) (all_ready (first + 1) states))
   where
     from : (ready : Bool) → is_ready state ≡ ready → All (IsReadyFrom first (state ∷ states)) (ready_from (first + 1) states) →
         All (IsReadyFrom first (state ∷ states)) (ready_from first (state ∷ states))
-    from true e rest = rw e ((zero, (state, sym (add-zero first), refl, e)), rest)
+    from true e rest = rw e (All-cons (IsReadyFrom first (state ∷ states)) first (ready_from (first + 1) states) (zero, (state, sym (add-zero first), refl, e)) rest)
     from false e rest = rw e rest
 
 All-found : (P : ℕ → Type 0) (test : ℕ → Bool) (xs : List ℕ) (x : ℕ) → All P xs → find test xs ≡ Some x → P x
 All-found P test [] x all is = cc
-All-found P test (y ∷ ys) x all is = from (test y) is
+All-found P test (y ∷ ys) x all is = from (test y) (λ e. All-found P test ys x (All-tail P y ys all) e) is
   where
-    from : (passes : Bool) → cond passes (Some y) (find test ys) ≡ Some x → P x
-    from true e = let same : y ≡ x = cc in subst P same all.0
-    from false e = All-found P test ys x all.1 e
+    from : (passes : Bool) → (find test ys ≡ Some x → P x) → cond passes (Some y) (find test ys) ≡ Some x → P x
+    from true rest e = let same : y ≡ x = cc in subst P same (All-head P y ys all)
+    from false rest e = rest e
 
 All-first : (P : ℕ → Type 0) (xs : List ℕ) (x : ℕ) → All P xs → slice_get xs 0 ≡ Some x → P x
 All-first P [] x all is = cc
-All-first P (y ∷ ys) x all is = let same : y ≡ x = cc in subst P same all.0
+All-first P (y ∷ ys) x all is = let same : y ≡ x = cc in subst P same (All-head P y ys all)
 
 either : {A : Type 0} (first second : Option A) (x : A) → option_or first second ≡ Some x → (first ≡ Some x) ⊎ (second ≡ Some x)
 either (Some y) second x is = inl is
