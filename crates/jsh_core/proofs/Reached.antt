@@ -299,7 +299,7 @@ rewrite-reached w after number run new r h = goes-on-from w after.states after.t
         kept-stopper w.states w.threads w.runs r other later old there (sym (h.others later.main differ) ∙ is_stopped)
 
 -- a run that is handed out, over or given up
-gone-same : (run : Run) → SameRun run (record run { gone = true })
+pub gone-same : (run : Run) → SameRun run (record run { gone = true })
 gone-same run = record { owner = refl; main = refl; snippet = refl; gone = λ e. (cc) }
 
 over-reached : (w : World) (number : ℕ) (run : Run) → AreReached w.states w.threads w.runs → numbered w.runs number ≡ Some run →
@@ -473,7 +473,7 @@ delivered-reached client acted r = from (hands_over acted.body)
 pub step-reached : (s : State) (entry : Entry) → IsReached s → IsReached (step s entry).state
 step-reached s entry r = delivered-reached entry.client (act_step s entry.client entry.act) (act-reached s entry.client entry.act r)
 
-none-numbered : (number : ℕ) (run : Run) → numbered [] number ≡ Some run → ⊥
+pub none-numbered : (number : ℕ) (run : Run) → numbered [] number ≡ Some run → ⊥
 none-numbered number run is = from (number == 0) is
   where
     from : (first : Bool) → cond first None None ≡ Some run → ⊥

@@ -25,16 +25,17 @@ pub record HandsOut (client owner asked number : ℕ) (answered : ReplyBody) : T
   pub same : asked ≡ number
   pub over : is_over answered ≡ true
 
--- the entry takes a run of this client away: it is its own leave, or hands the run out to it, or it is anyone's reset
+-- What takes a run of this client away: its own leave, its act that hands the run out to it, or anyone's reset.
+abbrev pub Takes : ℕ → Act → ℕ → ℕ → ReplyBody → Type 0
+Takes client act.Leave owner number answered = client ≡ owner
+Takes client (act.Collect run) owner number answered = HandsOut client owner run number answered
+Takes client (act.Expire run steps) owner number answered = HandsOut client owner run number answered
+Takes client act.Reset owner number answered = Unit {0}
+Takes client _ owner number answered = ⊥
+
+-- the entry takes the run of this client away
 abbrev pub TakesAway : State → Entry → ℕ → ℕ → Type 0
 TakesAway s entry owner number = Takes entry.client entry.act owner number (step s entry).reply.body
-  where
-    Takes : ℕ → Act → ℕ → ℕ → ReplyBody → Type 0
-    Takes client act.Leave owner number answered = client ≡ owner
-    Takes client (act.Collect run) owner number answered = HandsOut client owner run number answered
-    Takes client (act.Expire run steps) owner number answered = HandsOut client owner run number answered
-    Takes client act.Reset owner number answered = Unit {0}
-    Takes client _ owner number answered = ⊥
 
 -- no entry takes the run away
 abbrev pub Stays : State → List Entry → ℕ → ℕ → Type 0
