@@ -52,7 +52,7 @@ use Rattle.jsh_core.specs.Step.{act_step, delivered, step}
 use Rattle.jsh_core.specs.Acts.{HandsInUtf8}
 use Rattle.jsh_core.specs.Causes.{CausesOfAct, CausesOfAsk, CausesOfCollect, CausesOfDrop, CausesOfDropId, CausesOfDropName, CausesOfEnd, CausesOfEnter, CausesOfExpire, CausesOfRefusal, CausesOfStop, CausesOfSubmit, CausesOfTurn, GoesSoFar, AnswerHasCause, IsAliveRun, IsDroppable, IsEndedRun, IsOwner, IsOwnRun, IsSum, over_with, rejected_reply, world_after}
 use Rattle.jsh_core.specs.History.{Allows, MayDo, state_of}
-use Rattle.jsh_core.proofs.Delivery.{IsDelivered, delivers}
+use Rattle.jsh_core.proofs.DeliveryLaws.{IsDelivered, delivers}
 use Rattle.jsh_core.proofs.Picking.{none-goes, some-goes}
 use Rattle.jsh_core.proofs.Reached.{HasMain, IsReached, reached}
 use Rattle.jsh_core.proofs.Sums.{IsOnSum, sums-at}

@@ -22,7 +22,7 @@ use Rattle.jsh_core.specs.Step.{act_step, delivered, step}
 use Rattle.jsh_core.specs.Causes.{IsOwnRun}
 use Rattle.jsh_core.specs.Fates.{HandsOut, HasRun, Makes, Stays, Takes, TakesAway, WasMade, is_over}
 use Rattle.jsh_core.specs.History.{state_after, state_of}
-use Rattle.jsh_core.proofs.Delivery.{IsDelivered, delivers}
+use Rattle.jsh_core.proofs.DeliveryLaws.{IsDelivered, delivers}
 use Rattle.jsh_core.proofs.Numbered.{numbered-append, numbered-longer, numbered-map, numbered-mapped, numbered-set, numbered-set_other, numbered-within}
 use Rattle.jsh_core.proofs.Reached.{SameRun, SameRun-same, gone-same, new_run, none-numbered}
 use Rattle.jsh_core.proofs.ThreadLaws.{LeavesOthers, stop_thread-leaves, turned-leaves}

@@ -11,7 +11,7 @@ use Rattle.jsh_sched.specs.declared.ThreadState.TheVariants as thread_state
 use Rattle.jsh_sched.specs.ThreadState.{is_ready}
 use Rattle.jsh_sched.specs.Pick.{picked, next_after, other_threads, ready_from, ready_threads, is_main}
 use Rattle.jsh_sched.proofs.ReadyThreads.{find_main_at, picked-is_none}
-use Rattle.jsh_core.specs.State.{World, numbered}
+use Rattle.jsh_core.specs.State.{State, World, numbered}
 use Rattle.jsh_core.specs.Threads.{can_go_on}
 use Rattle.jsh_core.specs.Causes.{SomeGoesOn}
 use Rattle.jsh_core.proofs.WorldLemmas.{numbered-place, numbered-positive}
@@ -171,3 +171,22 @@ goes-picked w cursor main first goes = from (picked w.states cursor main first) 
 -- where none is picked, no thread can go on
 pub none-picked : (w : World) (cursor : ℕ) (main : Option ℕ) (first : Bool) → picked w.states cursor main first ≡ None → ¬ SomeGoesOn w
 none-picked w cursor main first none goes = let some = goes-picked w cursor main first goes in let both : None ≡ Some some.0 = sym none ∙ some.1 in cc
+
+-- the same of a state and its threads
+pub picked-ready : (s : State) (cursor : ℕ) (main : Option ℕ) (first : Bool) (thread : ℕ) → picked s.world.states cursor main first ≡ Some thread →
+    can_go_on s.world thread ≡ true
+picked-ready s cursor main first thread is = picked-goes s.world cursor main first thread is
+
+-- no thread is picked exactly where none is ready
+pub picked-none : (states : List ThreadState) (cursor : ℕ) (main : Option ℕ) (first : Bool) → (picked states cursor main first ≡ None) ↔ (list_any is_ready states ≡ false)
+picked-none states cursor main first = (λ is. to (list_any is_ready states) refl is, λ none. back (picked states cursor main first) refl none)
+  where
+    to : (any : Bool) → list_any is_ready states ≡ any → picked states cursor main first ≡ None → list_any is_ready states ≡ false
+    to true some is = absurd (none-picked (record { cells = []; states = states; threads = []; runs = []; pending = [] }) cursor main first is
+        ((some-goes (record { cells = []; states = states; threads = []; runs = []; pending = [] })).0 some))
+    to false none is = none
+
+    back : (found : Option ℕ) → picked states cursor main first ≡ found → list_any is_ready states ≡ false → picked states cursor main first ≡ None
+    back None is none = is
+    back (Some thread) is none = absurd (none-goes (record { cells = []; states = states; threads = []; runs = []; pending = [] }) none
+        (thread, picked-goes (record { cells = []; states = states; threads = []; runs = []; pending = [] }) cursor main first thread is))

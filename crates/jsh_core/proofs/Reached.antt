@@ -28,7 +28,7 @@ use Rattle.jsh_core.specs.Clients.{enter, leave, reset}
 use Rattle.jsh_core.specs.Step.{act_step, delivered, hands_over, step}
 use Rattle.jsh_core.specs.Causes.{IsOwnRun}
 use Rattle.jsh_core.specs.History.{state_after, state_of}
-use Rattle.jsh_core.proofs.Delivery.{handed, withheld}
+use Rattle.jsh_core.proofs.DeliveryLaws.{handed, withheld}
 use Rattle.jsh_core.proofs.Numbered.{numbered-append, numbered-longer, numbered-mapped, numbered-set, numbered-set_other, numbered-within}
 use Rattle.jsh_core.proofs.Sums.{AreOnSums, sum-main, sums-lengths, sums-push, sums-stop_thread, sums-stopped, sums-turned}
 use Rattle.jsh_core.proofs.ThreadLaws.{GoesOver, GoesOver-same, LeavesOthers, is_stopped_with, stepped-leaves, stop_thread-leaves, stop_thread-over, stop_threads-over, stopped-at, turned-leaves, turned-over}
