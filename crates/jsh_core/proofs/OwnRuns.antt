@@ -87,7 +87,7 @@ run-taken s entry owner number run own takes = unseen (step s entry).state numbe
             let the_run : old ≡ run = cc in
             let owner_same : owner ≡ other = sym own.owner ∙ ap (λ (r : Run). r.owner) (sym the_run) ∙ before.own in
             stays (subst (λ n. TakesAway s entry n number) owner_same takes)
-        by_past (inr made) = let next : number ≡ length s.world.runs + 1 = fate.new made in absurd (omega arith)
+        by_past (inr made) = let next : number ≡ length s.world.runs + 1 = fate.new made in absurd (omega (arith, within, next))
 
 -- a run that is gone is never seen again
 pub gone-stays : (s : State) (entry : Entry) (number : ℕ) (run : Run) → numbered s.world.runs number ≡ Some run → run.gone ≡ true → run_view (step s entry).state number ≡ None
@@ -108,4 +108,4 @@ gone-stays s entry number run found gone = unseen (step s entry).state number (�
             let the_run : old ≡ run = cc in
             let clash : true ≡ false = sym gone ∙ ap (λ (r : Run). r.gone) (sym the_run) ∙ before.there in
             cc
-        by_past (inr made) = let next : number ≡ length s.world.runs + 1 = fate.new made in absurd (omega arith)
+        by_past (inr made) = let next : number ≡ length s.world.runs + 1 = fate.new made in absurd (omega (arith, within, next))
