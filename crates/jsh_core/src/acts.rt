@@ -4,7 +4,7 @@ ghost use Rattle.jsh_core.specs.Limits.{most_entries};
 ghost use Rattle.jsh_core.specs.Parts.{state_from, IsSound, IsWithin};
 
 use crate::clients::{dismiss_client, number_client, reset_all};
-use crate::drops::drop_target;
+use crate::drops::drop_snippet;
 use crate::parts::Parts;
 use crate::questions::answer_question;
 use crate::runs::{collect_run, expire_run, stop_run};
@@ -45,11 +45,11 @@ pub fn perform(
         Act::Turn { thread, steps } => turn_thread(parts, alloc, *thread, *steps),
         Act::Collect { run } => at_once(collect_run(parts, alloc, client, *run)),
         Act::Expire { run, steps } => at_once(expire_run(parts, alloc, client, *run, *steps)),
-        Act::Stop { run } => Ok(stop_run(parts, client, *run)),
-        Act::Drop { target } => at_once(drop_target(parts, alloc, target)),
+        Act::Stop { run } => Ok(stop_run(parts, alloc, client, *run)),
+        Act::Drop { target } => at_once(drop_snippet(parts, alloc, target)),
         Act::Ask { question } => at_once(answer_question(parts, alloc, question)),
-        Act::Reset => at_once(reset_all(parts, alloc)),
-        Act::Leave => Ok(dismiss_client(parts, client)),
+        Act::Reset => Ok(reset_all(parts, alloc)),
+        Act::Leave => Ok(dismiss_client(parts, alloc, client)),
         Act::Close => Ok(ReplyBody::Closed),
     }
 }

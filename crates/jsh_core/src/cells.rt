@@ -1,5 +1,6 @@
 ghost use Rattle.std.specs.Prelude.{◌≡◌, ◌<◌, length, IfSome};
-ghost use Rattle.jsh_core.specs.Cells.{cell_place, set_cell};
+ghost use Rattle.std.specs.Option.{option_copied};
+ghost use Rattle.jsh_core.specs.Cells.{cell_place, cell_value, set_cell};
 
 use crate::world::Cell;
 use jsh_text::Value;
@@ -18,6 +19,14 @@ pub fn cell_place(cells: &[Cell], link: &Link) -> Option<usize>
         }
     }
     None
+}
+
+/// The value of a link's variable.
+pub fn value_of_cell<'a>(cells: &'a [Cell], link: &Link) -> Option<&'a Value>
+    ensures { option_copied result ≡ cell_value link.now cells.now }
+{
+    let place = cell_place(cells, link)?;
+    Some(&cells[place].value)
 }
 
 /// A link's variable gets a value.

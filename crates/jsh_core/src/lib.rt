@@ -15,6 +15,7 @@ mod parts;
 mod questions;
 mod runs;
 mod snippets;
+mod stopping;
 mod turns;
 mod world;
 

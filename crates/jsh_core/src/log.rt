@@ -64,7 +64,7 @@ pub fn make_room(log: &mut Log, act: &Act) -> Result<(), NoMemory>
 }
 
 /// The bytes of source that an act has, those of a name and of a question's text among them.
-fn act_bytes(act: &Act) -> u64
+pub fn act_bytes(act: &Act) -> u64
     ensures { result ≡ act_bytes act.now }
 {
     match act {

@@ -1,0 +1,32 @@
+-- The only item that a test holds of.
+use Rattle.std.proofs.Common.{◌≡◌, ℕ, zero, suc, ◌+◌, ◌<◌, ◌≤◌, Bool, true, false, List, [], ◌∷◌, length, filter, find, Option, None, Some, refl, ap, arith, cond}
+use Rattle.std.specs.List.{slice_get}
+
+-- the first item that is found is the first that is filtered
+pub find-filter : {A : Type 0} (p : A → Bool) (xs : List A) → find p xs ≡ slice_get (filter p xs) 0
+find-filter p [] = refl
+find-filter p (x ∷ xs) = from (p x)
+  where
+    from : (is : Bool) → cond is (Some x) (find p xs) ≡ slice_get (cond is (x ∷ filter p xs) (filter p xs)) 0
+    from true = refl
+    from false = find-filter p xs
+
+one_item : {A : Type 0} (xs : List A) (x : A) → length xs ≡ 1 → slice_get xs 0 ≡ Some x → xs ≡ x ∷ []
+one_item [] x one found = cc
+one_item (y ∷ []) x one found = cc
+one_item (y ∷ z ∷ xs) x one found = absurd (omega (arith, one))
+
+-- one item that is filtered is the one that is found
+pub only-found : {A : Type 0} (p : A → Bool) (xs : List A) (x : A) → length (filter p xs) ≡ 1 → find p xs ≡ Some x → filter p xs ≡ x ∷ []
+only-found p xs x one found = one_item (filter p xs) x one (rw (find-filter p xs) at found)
+
+pub length-filter_most : {A : Type 0} (p : A → Bool) (xs : List A) → length (filter p xs) ≤ length xs
+length-filter_most p [] = omega arith
+length-filter_most p (x ∷ xs) = from (p x)
+  where
+    rest : length (filter p xs) ≤ length xs
+    rest = length-filter_most p xs
+
+    from : (is : Bool) → length (cond is (x ∷ filter p xs) (filter p xs)) ≤ length (x ∷ xs)
+    from true = omega (arith, rest)
+    from false = omega (arith, rest)
