@@ -33,3 +33,4 @@ pub mod Fresh
 pub mod Ended
 pub mod RunEnds
 pub mod SumSteps
+pub mod Refusals
