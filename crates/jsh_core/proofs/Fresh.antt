@@ -10,12 +10,15 @@ use Rattle.jsh_snippet.specs.declared.replies.ReplyBody.TheVariants as body
 use Rattle.jsh_sched.specs.declared.ThreadState.{ThreadState}
 use Rattle.jsh_sched.specs.declared.ThreadState.TheVariants as thread_state
 use Rattle.jsh_sched.specs.ThreadState.{is_alive, is_ready}
+use Rattle.jsh_sum.specs.declared.sums.Sum.{Sum}
+use Rattle.jsh_verdict.specs.declared.verdict.Verdict.TheVariants.{Accepted}
+use Rattle.jsh_verdict.specs.Verdict.{verdict}
 use Rattle.jsh_core.specs.declared.world.Body.{Body}
 use Rattle.jsh_core.specs.declared.world.Run.{Run}
 use Rattle.jsh_core.specs.declared.world.Thread.{Thread}
 use Rattle.jsh_core.specs.State.{State, Acted, Stepped, numbered}
 use Rattle.jsh_core.specs.Generations.{with_live}
-use Rattle.jsh_core.specs.Snippets.{main_thread, new_link, run_of, submitted}
+use Rattle.jsh_core.specs.Snippets.{accepted_plan, main_thread, new_link, published, run_of, submitted}
 use Rattle.jsh_core.specs.Threads.{can_go_on, is_thread_alive}
 use Rattle.jsh_core.specs.Runs.{collect, expire, stop}
 use Rattle.jsh_core.specs.Drops.{drop_id, drop_snippet}
@@ -76,6 +79,26 @@ runless-submitted s client after answered none threads states runs clients = rec
     clash : (run : ℕ) → run_of answered ≡ Some run → ⊥
     clash run e = let both : None ≡ Some run = sym none ∙ e in cc
 
+-- the run of a snippet that is accepted evaluates its sum
+accepted-fresh : (s : State) (client : ℕ) (source : List ℕ) (sum : Sum) (run : ℕ) → length s.world.states ≡ length s.world.threads → Some (length s.world.runs + 1) ≡ Some run →
+    (f : IsFresh (published s client (accepted_plan s.generation (length s.book + 1) source sum)).state client run) × (f.what.sum ≡ sum)
+accepted-fresh s client source sum run fits e = (record {
+  main = length s.world.threads + 1;
+  snippet = length s.book + 1;
+  what = what;
+  newest = sym (length-append s.world.threads (main_thread client what ∷ []));
+  last = number e ∙ sym (length-append s.world.runs (new_run client (length s.world.threads + 1) (length s.book + 1) ∷ []));
+  run_is = numbered-push s.world.runs run (new_run client (length s.world.threads + 1) (length s.book + 1)) (number e);
+  thread_is = numbered-push s.world.threads (length s.world.threads + 1) (main_thread client what) refl;
+  state_is = numbered-push s.world.states (length s.world.threads + 1) thread_state.Ready (ap (λ n. n + 1) (sym fits));
+}, refl)
+  where
+    what : Body
+    what = record { variable = new_link s.generation (length s.book + 1); sum = sum }
+
+    number : Some (length s.world.runs + 1) ≡ Some run → run ≡ length s.world.runs + 1
+    number e = cc
+
 act-submits : (s : State) (client : ℕ) (source : List ℕ) (acted : Acted) → length s.world.states ≡ length s.world.threads → Submits s client source acted →
     IsSubmitted s client acted.state acted.body
 act-submits s client source acted fits (full many is) = subst (λ (a : Acted). IsSubmitted s client a.state a.body) (sym is)
@@ -85,27 +108,15 @@ act-submits s client source acted fits (rejected ds few found is) = subst (λ (a
 act-submits s client source acted fits (crowded sum few found many is) = subst (λ (a : Acted). IsSubmitted s client a.state a.body) (sym is)
     (runless-submitted s client _ _ refl refl refl refl refl)
 act-submits s client source acted fits (accepted sum few found room is) = subst (λ (a : Acted). IsSubmitted s client a.state a.body) (sym is) (record {
-  fresh = λ run e. record {
-    main = length s.world.threads + 1;
-    snippet = length s.book + 1;
-    what = what;
-    newest = sym (length-append s.world.threads (main_thread client what ∷ []));
-    last = number run e ∙ sym (length-append s.world.runs (new_run client (length s.world.threads + 1) (length s.book + 1) ∷ []));
-    run_is = numbered-push s.world.runs run (new_run client (length s.world.threads + 1) (length s.book + 1)) (number run e);
-    thread_is = numbered-push s.world.threads (length s.world.threads + 1) (main_thread client what) refl;
-    state_is = numbered-push s.world.states (length s.world.threads + 1) thread_state.Ready (ap (λ n. n + 1) (sym fits));
-  };
-  next = number;
-  newer = λ run e. length-append s.world.threads (main_thread client what ∷ []);
+  fresh = λ run e. (accepted-fresh s client source sum run fits e).0;
+  next = λ run e. number run e;
+  newer = λ run e. length-append s.world.threads (main_thread client (record { variable = new_link s.generation (length s.book + 1); sum = sum }) ∷ []);
   same_threads = λ e. (let both : Some (length s.world.runs + 1) ≡ None = e in (cc));
   same_states = λ e. (let both : Some (length s.world.runs + 1) ≡ None = e in (cc));
   same_runs = λ e. (let both : Some (length s.world.runs + 1) ≡ None = e in (cc));
   clients = refl;
 })
   where
-    what : Body
-    what = record { variable = new_link s.generation (length s.book + 1); sum = sum }
-
     number : (run : ℕ) → Some (length s.world.runs + 1) ≡ Some run → run ≡ length s.world.runs + 1
     number run e = cc
 
@@ -113,9 +124,6 @@ pub submit-answers : (s : State) (client : ℕ) (source : List ℕ) → length s
     IsSubmitted s client (step s (by client (act.Submit source))).state (step s (by client (act.Submit source))).reply.body
 submit-answers s client source fits = subst (λ (b : ReplyBody). IsSubmitted s client (step s (by client (act.Submit source))).state b) (sym is.body) (moved old)
   where
-    acted : Acted
-    acted = submitted s client source
-
     is : IsDelivered (submitted s client source) (delivered client (submitted s client source))
     is = delivers client (submitted s client source)
 
@@ -201,3 +209,34 @@ pub runless : (s : State) (client : ℕ) (what : Act) → is_submit what ≡ fal
 runless s client what e =
     let is : IsDelivered (act_step s client what) (delivered client (act_step s client what)) = delivers client (act_step s client what) in
     ap run_of is.body ∙ act-runless s client what e
+
+-- a fresh run evaluates the sum that its source is accepted with
+pub submit-sum : (s : State) (client : ℕ) (source : List ℕ) (run : ℕ) → length s.world.states ≡ length s.world.threads →
+    run_of (step s (by client (act.Submit source))).reply.body ≡ Some run →
+    (f : IsFresh (step s (by client (act.Submit source))).state client run) × (verdict source ≡ Accepted f.what.sum)
+submit-sum s client source run fits made = moved (old (submitted s client source) (view-submit s client source) (ap run_of (sym is.body) ∙ made))
+  where
+    is : IsDelivered (submitted s client source) (delivered client (submitted s client source))
+    is = delivers client (submitted s client source)
+
+    old : (acted : Acted) → Submits s client source acted → run_of acted.body ≡ Some run → (f : IsFresh acted.state client run) × (verdict source ≡ Accepted f.what.sum)
+    old acted (full many same) e = let both : None ≡ Some run = sym (ap (λ (a : Acted). run_of a.body) same) ∙ e in cc
+    old acted (rejected ds few found same) e = let both : None ≡ Some run = sym (ap (λ (a : Acted). run_of a.body) same) ∙ e in cc
+    old acted (crowded sum few found many same) e = let both : None ≡ Some run = sym (ap (λ (a : Acted). run_of a.body) same) ∙ e in cc
+    old acted (accepted sum few found room same) e =
+        subst (λ (a : Acted). (f : IsFresh a.state client run) × (verdict source ≡ Accepted f.what.sum)) (sym same)
+        (let fresh = accepted-fresh s client source sum run fits (sym (ap (λ (a : Acted). run_of a.body) same) ∙ e) in
+        (fresh.0, found ∙ ap Accepted (sym fresh.1)))
+
+    moved : (f : IsFresh (submitted s client source).state client run) × (verdict source ≡ Accepted f.what.sum) →
+        (f : IsFresh (delivered client (submitted s client source)).state client run) × (verdict source ≡ Accepted f.what.sum)
+    moved (f, found) = (record {
+      main = f.main;
+      snippet = f.snippet;
+      what = f.what;
+      newest = f.newest ∙ sym (ap length is.threads);
+      last = f.last ∙ sym (ap length is.runs);
+      run_is = ap (λ (l : List Run). numbered l run) is.runs ∙ f.run_is;
+      thread_is = ap (λ (l : List Thread). numbered l f.main) is.threads ∙ f.thread_is;
+      state_is = ap (λ (l : List ThreadState). numbered l f.main) is.states ∙ f.state_is;
+    }, found)

@@ -34,3 +34,4 @@ pub mod Ended
 pub mod RunEnds
 pub mod SumSteps
 pub mod Refusals
+pub mod Values

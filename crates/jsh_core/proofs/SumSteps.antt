@@ -22,9 +22,9 @@ use Rattle.jsh_core.proofs.Ended.{step-over}
 use Rattle.jsh_core.proofs.Numbered.{numbered-beside, numbered-set}
 use Rattle.jsh_core.proofs.Picking.{goes-picked}
 use Rattle.jsh_core.proofs.Reached.{IsReached, reached-fits}
-use Rattle.jsh_core.proofs.Sums.{AreOnSums, IsOnSum, frame_answered, frame_begun, stepped-answered, stepped-begun, sums-at, sums-lengths, sums-stepped}
+use Rattle.jsh_core.proofs.Sums.{AreOnSums, IsOnSum, stepped-answered, stepped-begun, sums-at, sums-lengths, sums-stepped}
 use Rattle.jsh_core.proofs.Sums.IsOnSum.{answered, begun, returned, stopped}
-use Rattle.jsh_core.proofs.ThreadLaws.{GoesOver, ready-at}
+use Rattle.jsh_core.proofs.ThreadLaws.{GoesOver, frame_answered, frame_begun, ready-at}
 use Rattle.jsh_core.proofs.TurnLemmas.{further, turned-stuck, turned-suc, turned-zero}
 
 -- the steps that the thread with this number has done

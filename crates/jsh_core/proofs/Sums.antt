@@ -11,24 +11,16 @@ use Rattle.jsh_sched.specs.ThreadState.{is_alive, is_ready}
 use Rattle.jsh_sum.specs.Sum.{value_of}
 use Rattle.jsh_core.specs.declared.world.Answer.TheVariants as «answer»
 use Rattle.jsh_core.specs.declared.world.Body.{Body}
-use Rattle.jsh_core.specs.declared.world.Frame.{Frame}
 use Rattle.jsh_core.specs.declared.world.Thread.{Thread}
 use Rattle.jsh_core.specs.declared.world.ThreadEnd.TheVariants as thread_end
 use Rattle.jsh_core.specs.State.{World, numbered}
 use Rattle.jsh_core.specs.Snippets.{main_thread}
 use Rattle.jsh_core.specs.Threads.{can_go_on, ended_by_stop, frames_step, is_owned, next, performed, stepped, stop_thread, stop_threads, stopped_states, stopped_threads, thread_answered, thread_returned, thread_step, turned, Turned}
 use Rattle.jsh_core.specs.Threads.Next.{Sets, Returns}
-use Rattle.jsh_core.proofs.ThreadLaws.{StopsThread, is_stopped_with, ready-at, view-stop_thread, with_stopped}
+use Rattle.jsh_core.proofs.ThreadLaws.{StopsThread, frame_answered, frame_begun, is_stopped_with, ready-at, view-stop_thread, with_stopped}
 use Rattle.jsh_core.proofs.ThreadLaws.StopsThread.{idle, missing, stops}
 use Rattle.jsh_core.proofs.TurnLemmas.{turned-stuck, turned-suc, turned-zero}
 use Rattle.jsh_core.proofs.WorldLemmas.{numbered-place}
-
--- a body that was entered and answered nothing, or once
-abbrev pub frame_begun : Body → Frame
-frame_begun what = record { body = what; args = []; answers = [] }
-
-abbrev pub frame_answered : Body → Frame
-frame_answered what = record { body = what; args = []; answers = «answer».Empty ∷ [] }
 
 -- how far a thread can be
 pub data IsOnSum (state : ThreadState) (t : Thread) : Type 0 where

@@ -2,26 +2,46 @@
 use Rattle.std.proofs.Common.{◌≡◌, ◌≢◌, ◌⊎◌, inl, inr, ℕ, zero, suc, ◌+◌, ◌-◌, ◌<◌, ◌≤◌, ◌==◌, Bool, true, false, List, [], ◌∷◌, ◌++◌, Option, None, Some, length, set, refl, ap, sym, subst, ◌∙◌, arith, cond, length-set}
 use Rattle.std.specs.Prelude.{◌&&◌}
 use Rattle.std.specs.List.{slice_get}
+use Rattle.std.specs.Fmt.{signed_decimal}
 use Rattle.std.specs.Option.{option_map_or}
 use Rattle.std.proofs.lemmas.Bool.{cases_eq}
 use Rattle.std.proofs.Math.Nat.{le_refl}
 use Rattle.jsh_sched.specs.declared.ThreadState.{ThreadState}
 use Rattle.jsh_sched.specs.declared.ThreadState.TheVariants as thread_state
 use Rattle.jsh_sched.specs.ThreadState.{is_alive, is_ready}
-use Rattle.jsh_core.specs.declared.world.Thread.{Thread}
+use Rattle.jsh_sum.specs.Sum.{value_of}
+use Rattle.jsh_core.specs.declared.world.Answer.TheVariants as «answer»
+use Rattle.jsh_core.specs.declared.world.Body.{Body}
 use Rattle.jsh_core.specs.declared.world.Frame.{Frame}
+use Rattle.jsh_core.specs.declared.world.Thread.{Thread}
+use Rattle.jsh_core.specs.declared.world.ThreadEnd.TheVariants as thread_end
 use Rattle.jsh_core.specs.State.{World, numbered}
-use Rattle.jsh_core.specs.Threads.{Next, can_go_on, ended_by_stop, frames_step, is_owned, is_thread_alive, next, performed, stop_found, stop_thread, stop_threads, stepped, stopped_states, stopped_threads, thread_step, turned, Turned}
+use Rattle.jsh_core.specs.Threads.{Next, answered, can_go_on, ended_by_stop, frames_step, is_owned, is_thread_alive, next, performed, stop_found, stop_thread, stop_threads, stepped, stopped_states, stopped_threads, thread_answered, thread_returned, thread_step, turned, Turned}
 use Rattle.jsh_core.specs.Threads.Next.{Sets, Returns}
 use Rattle.jsh_core.proofs.Numbered.{numbered-set, numbered-set_other}
 use Rattle.jsh_core.proofs.TurnLemmas.{turned-stuck, turned-suc, turned-zero}
 use Rattle.jsh_core.proofs.WorldLemmas.{numbered-positive}
 
--- what a thread comes to: it is the same client's, and has done no fewer steps; one that isn't alive stays as it is
+-- a body that was entered and answered nothing, or once
+abbrev pub frame_begun : Body → Frame
+frame_begun what = record { body = what; args = []; answers = [] }
+
+abbrev pub frame_answered : Body → Frame
+frame_answered what = record { body = what; args = []; answers = «answer».Empty ∷ [] }
+
+-- a thread evaluates this body, or has returned the text of its value, or was stopped
+pub data Evaluates (what : Body) (state : ThreadState) (t : Thread) : Type 0 where
+  begins : t.frames ≡ frame_begun what ∷ [] → Evaluates what state t
+  goes_on : t.frames ≡ frame_answered what ∷ [] → Evaluates what state t
+  gives : is_alive state ≡ false → t.end ≡ Some (thread_end.Returned (Some (signed_decimal (value_of what.sum)))) → Evaluates what state t
+  halts : is_alive state ≡ false → t.end ≡ Some thread_end.Stopped → Evaluates what state t
+
+-- what a thread comes to: it is the same client's, has done no fewer steps, and evaluates what it did; one that isn't alive stays as it is
 pub record IsLater (state : ThreadState) (t : Thread) (state_after : ThreadState) (after : Thread) : Type 0 where
   pub owner : after.owner ≡ t.owner
   pub steps : t.steps ≤ after.steps
   pub dead : is_alive state ≡ false → (state_after ≡ state) × (after ≡ t)
+  pub body : (what : Body) → Evaluates what state t → Evaluates what state_after after
 
 -- the thread with this number in a later world
 pub record GoesOver (w after : World) (number : ℕ) (state : ThreadState) (t : Thread) : Type 0 where
@@ -32,7 +52,7 @@ pub record GoesOver (w after : World) (number : ℕ) (state : ThreadState) (t : 
   pub later : IsLater state t state_after thread_after
 
 pub IsLater-same : (state : ThreadState) (t : Thread) → IsLater state t state t
-IsLater-same state t = record { owner = refl; steps = le_refl t.steps; dead = λ e. (refl, refl) }
+IsLater-same state t = record { owner = refl; steps = le_refl t.steps; dead = λ e. (refl, refl); body = λ what e. e }
 
 pub IsLater-twice : (a : ThreadState) (t : Thread) (b : ThreadState) (u : Thread) (c : ThreadState) (v : Thread) → IsLater a t b u → IsLater b u c v → IsLater a t c v
 IsLater-twice a t b u c v first second = record {
@@ -41,6 +61,7 @@ IsLater-twice a t b u c v first second = record {
   dead = λ e. (let still : (b ≡ a) × (u ≡ t) = first.dead e in
       let last : (c ≡ b) × (v ≡ u) = second.dead (ap is_alive still.0 ∙ e) in
       (last.0 ∙ still.0, last.1 ∙ still.1));
+  body = λ what e. second.body what (first.body what e);
 }
 
 -- a thread of the same lists
@@ -121,27 +142,57 @@ turned-leaves number (suc most) w = from (can_go_on w number) refl (turned-leave
 
 -- the thread that takes the step
 performed-over : (w : World) (number : ℕ) (state : ThreadState) (t : Thread) (frame : Frame) (below : List Frame) (what : Next) →
-    numbered w.states number ≡ Some state → numbered w.threads number ≡ Some t → is_alive state ≡ true → GoesOver w (performed w number t frame below what) number state t
-performed-over w number state t frame below (Sets v) state_is thread_is alive = record {
+    numbered w.states number ≡ Some state → numbered w.threads number ≡ Some t → is_alive state ≡ true → t.frames ≡ frame ∷ below → next frame.body.sum frame.answers ≡ what →
+    GoesOver w (performed w number t frame below what) number state t
+performed-over w number state t frame below (Sets v) state_is thread_is alive frames does = record {
   state_after = state;
-  thread_after = _;
+  thread_after = thread_answered t frame below;
   state_is = state_is;
-  thread_is = numbered-set w.threads number t _ thread_is;
-  later = record { owner = refl; steps = omega arith; dead = λ e. (let both : true ≡ false = sym alive ∙ e in (cc)) };
+  thread_is = numbered-set w.threads number t (thread_answered t frame below) thread_is;
+  later = record { owner = refl; steps = omega arith; dead = λ e. (let both : true ≡ false = sym alive ∙ e in (cc)); body = body };
 }
-performed-over w number state t frame below (Returns text) state_is thread_is alive = record {
+  where
+    body : (what : Body) → Evaluates what state t → Evaluates what state (thread_answered t frame below)
+    body what (begins is) =
+        let both : frame ∷ below ≡ frame_begun what ∷ [] = sym frames ∙ is in
+        let first : frame ≡ frame_begun what = cc in
+        let rest : below ≡ [] = cc in
+        goes_on (ap (λ (x : Frame). answered «answer».Empty x ∷ below) first ∙ ap (λ (l : List Frame). frame_answered what ∷ l) rest)
+    body what (goes_on is) =
+        let both : frame ∷ below ≡ frame_answered what ∷ [] = sym frames ∙ is in
+        let first : frame ≡ frame_answered what = cc in
+        let clash : Sets v ≡ Returns (signed_decimal (value_of what.sum)) = sym does ∙ ap (λ (x : Frame). next x.body.sum x.answers) first in
+        cc
+    body what (gives dead end) = let both : true ≡ false = sym alive ∙ dead in cc
+    body what (halts dead end) = let both : true ≡ false = sym alive ∙ dead in cc
+performed-over w number state t frame below (Returns text) state_is thread_is alive frames does = record {
   state_after = thread_state.Ended;
-  thread_after = _;
-  state_is = numbered-set w.states number state _ state_is;
-  thread_is = numbered-set w.threads number t _ thread_is;
-  later = record { owner = refl; steps = omega arith; dead = λ e. (let both : true ≡ false = sym alive ∙ e in (cc)) };
+  thread_after = thread_returned t text;
+  state_is = numbered-set w.states number state thread_state.Ended state_is;
+  thread_is = numbered-set w.threads number t (thread_returned t text) thread_is;
+  later = record { owner = refl; steps = omega arith; dead = λ e. (let both : true ≡ false = sym alive ∙ e in (cc)); body = body };
 }
+  where
+    body : (what : Body) → Evaluates what state t → Evaluates what thread_state.Ended (thread_returned t text)
+    body what (begins is) =
+        let both : frame ∷ below ≡ frame_begun what ∷ [] = sym frames ∙ is in
+        let first : frame ≡ frame_begun what = cc in
+        let clash : Returns text ≡ Sets (value_of what.sum) = sym does ∙ ap (λ (x : Frame). next x.body.sum x.answers) first in
+        cc
+    body what (goes_on is) =
+        let both : frame ∷ below ≡ frame_answered what ∷ [] = sym frames ∙ is in
+        let first : frame ≡ frame_answered what = cc in
+        let same : Returns text ≡ Returns (signed_decimal (value_of what.sum)) = sym does ∙ ap (λ (x : Frame). next x.body.sum x.answers) first in
+        let value : text ≡ signed_decimal (value_of what.sum) = cc in
+        gives refl (ap (λ (x : List ℕ). Some (thread_end.Returned (Some x))) value)
+    body what (gives dead end) = let both : true ≡ false = sym alive ∙ dead in cc
+    body what (halts dead end) = let both : true ≡ false = sym alive ∙ dead in cc
 
 frames-over : (w : World) (number : ℕ) (state : ThreadState) (t : Thread) (frames : List Frame) → numbered w.states number ≡ Some state →
-    numbered w.threads number ≡ Some t → is_alive state ≡ true → GoesOver w (frames_step w number t frames) number state t
-frames-over w number state t [] state_is thread_is alive = GoesOver-same w w number state t refl refl state_is thread_is
-frames-over w number state t (frame ∷ below) state_is thread_is alive =
-    performed-over w number state t frame below (next frame.body.sum frame.answers) state_is thread_is alive
+    numbered w.threads number ≡ Some t → is_alive state ≡ true → t.frames ≡ frames → GoesOver w (frames_step w number t frames) number state t
+frames-over w number state t [] state_is thread_is alive is = GoesOver-same w w number state t refl refl state_is thread_is
+frames-over w number state t (frame ∷ below) state_is thread_is alive is =
+    performed-over w number state t frame below (next frame.body.sum frame.answers) state_is thread_is alive is refl
 
 ready_lives : (state : ThreadState) → is_ready state ≡ true → is_alive state ≡ true
 ready_lives thread_state.Ready e = refl
@@ -157,7 +208,7 @@ stepped-own : (w : World) (number : ℕ) (state : ThreadState) (t : Thread) → 
     can_go_on w number ≡ true → GoesOver w (stepped w number) number state t
 stepped-own w number state t state_is thread_is goes =
     subst (λ (after : World). GoesOver w after number state t) (sym (ap (thread_step w number) thread_is))
-    (frames-over w number state t t.frames state_is thread_is (ready_lives state (ready-at w number state state_is goes)))
+    (frames-over w number state t t.frames state_is thread_is (ready_lives state (ready-at w number state state_is goes)) refl)
 
 -- any thread, behind a step of one that can go on
 pub stepped-over : (w : World) (stepping number : ℕ) (state : ThreadState) (t : Thread) → numbered w.states number ≡ Some state →
@@ -275,6 +326,7 @@ stop_thread-over w stopping number state t state_is thread_is = by_number (cases
             owner = ap (λ (x : Thread). x.owner) the_thread;
             steps = subst (λ (x : Thread). x.steps ≤ u.steps) the_thread (le_refl u.steps);
             dead = λ e. (let both : true ≡ false = sym lives ∙ ap is_alive same ∙ e in (cc));
+            body = λ what e. halts refl refl;
           };
         })
 
@@ -345,6 +397,6 @@ stop_threads-over owner w number state t state_is thread_is =
     record { state_after = _; thread_after = _; state_is = at.0; thread_is = at.1; later = from (is_alive state) (is_owned owner t) refl }
   where
     from : (alive owned : Bool) → is_alive state ≡ alive → IsLater state t (cond (alive && owned) thread_state.Stopped state) (cond (alive && owned) (ended_by_stop t) t)
-    from true true e = record { owner = refl; steps = le_refl t.steps; dead = λ d. (let both : true ≡ false = sym e ∙ d in (cc)) }
+    from true true e = record { owner = refl; steps = le_refl t.steps; dead = λ d. (let both : true ≡ false = sym e ∙ d in (cc)); body = λ what b. halts refl refl }
     from true false e = IsLater-same state t
     from false owned e = IsLater-same state t
