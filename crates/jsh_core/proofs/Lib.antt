@@ -35,3 +35,4 @@ pub mod RunEnds
 pub mod SumSteps
 pub mod Refusals
 pub mod Values
+pub mod RunHistory

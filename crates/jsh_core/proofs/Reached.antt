@@ -490,7 +490,7 @@ opening-reached = record {
   pending = refl;
 }
 
-reached_after : (s : State) (entries : List Entry) → IsReached s → IsReached (state_after s entries)
+pub reached_after : (s : State) (entries : List Entry) → IsReached s → IsReached (state_after s entries)
 reached_after s [] r = r
 reached_after s (entry ∷ entries) r = reached_after (step s entry).state entries (step-reached s entry r)
 
