@@ -1,6 +1,10 @@
 -- The only item that a test holds of.
-use Rattle.std.proofs.Common.{◌≡◌, ℕ, zero, suc, ◌+◌, ◌<◌, ◌≤◌, Bool, true, false, List, [], ◌∷◌, length, filter, find, Option, None, Some, refl, ap, arith, cond}
+use Rattle.std.proofs.Common.{◌≡◌, ℕ, zero, suc, ◌+◌, ◌<◌, ◌≤◌, Bool, true, false, List, [], ◌∷◌, length, filter, find, Option, None, Some, refl, ap, sym, arith, cond, ◌∙◌}
 use Rattle.std.specs.List.{slice_get}
+use Rattle.jsh_snippet.specs.declared.replies.Refusal.TheVariants as refusal
+use Rattle.jsh_core.specs.declared.generation.Live.{Live}
+use Rattle.jsh_core.specs.State.{State, refuses}
+use Rattle.jsh_core.specs.Drops.{drop_id, drop_only}
 
 -- the first item that is found is the first that is filtered
 pub find-filter : {A : Type 0} (p : A → Bool) (xs : List A) → find p xs ≡ slice_get (filter p xs) 0
@@ -30,3 +34,22 @@ length-filter_most p (x ∷ xs) = from (p x)
     from : (is : Bool) → length (cond is (x ∷ filter p xs) (filter p xs)) ≤ length (x ∷ xs)
     from true = omega (arith, rest)
     from false = omega (arith, rest)
+
+-- where another number than one is found, none is taken back
+pub drop_only-other : (s : State) (name : List ℕ) (found : List Live) → (length found ≡ 1 → ⊥) → drop_only s name found ≡ refuses s (refusal.NoSuchName name (length found))
+drop_only-other s name [] other = refl
+drop_only-other s name (live ∷ []) other = absurd (other refl)
+drop_only-other s name (live ∷ next ∷ rest) other = refl
+
+-- where one is filtered, it is found
+pub found-one : {A : Type 0} (p : A → Bool) (xs : List A) → length (filter p xs) ≡ 1 → find p xs ≡ None → ⊥
+found-one p xs one none = from (filter p xs) one (sym (find-filter p xs) ∙ none)
+  where
+    from : (ys : List A) → length ys ≡ 1 → slice_get ys 0 ≡ None → ⊥
+    from [] one none = omega (arith, one)
+    from (y ∷ ys) one none = cc
+
+-- the only one with the name is taken back
+pub drop_only-one : (s : State) (name : List ℕ) (p : Live → Bool) (xs : List Live) (live : Live) → length (filter p xs) ≡ 1 → find p xs ≡ Some live →
+    drop_only s name (filter p xs) ≡ drop_id s live.id
+drop_only-one s name p xs live one found = rw (only-found p xs live one found) refl

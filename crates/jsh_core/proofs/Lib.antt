@@ -36,3 +36,4 @@ pub mod SumSteps
 pub mod Refusals
 pub mod Values
 pub mod RunHistory
+pub mod SnippetLemmas

@@ -3,6 +3,7 @@ use Rattle.std.proofs.Common.{◌≡◌, ℕ, zero, suc, ◌+◌, ◌-◌, ◌<�
 use Rattle.std.specs.List.{slice_get, slice_set}
 use Rattle.std.proofs.lemmas.Option.{get_or_from_slice_get, slice_get-get_or, slice_get_within}
 use Rattle.std.proofs.lemmas.List.{take_more_set, drop-set-lt}
+use Rattle.std.proofs.lemmas.Bool.{eqb-true}
 use Rattle.jsh_core.specs.State.{numbered}
 
 -- where an item stands that has a number
@@ -33,8 +34,11 @@ HasNumber-of items (suc k) item e =
 
 -- the item with a number, by its place
 pub numbered-at : {A : Type 0} (items : List A) (number : ℕ) (d : A) → 0 < number → number - 1 < length items → numbered items number ≡ Some (get_or items (number - 1) d)
-numbered-at items zero d positive within = absurd (omega arith)
-numbered-at items (suc k) d positive within = slice_get-get_or items (suc k - 1) d within
+numbered-at items number d positive within = from (number == 0) refl
+  where
+    from : (first : Bool) → (number == 0) ≡ first → cond first None (slice_get items (number - 1)) ≡ Some (get_or items (number - 1) d)
+    from true z = absurd (omega (arith, eqb-true number 0 z))
+    from false z = slice_get-get_or items (number - 1) d within
 
 -- what a map comes to, where the places below i are done
 pub mapped-more : {A : Type 0} (f : A → A) (i : ℕ) (xs : List A) (y d : A) → i < length xs → y ≡ f (get_or xs i d) →

@@ -118,16 +118,11 @@ Stops-alive states number alive = from (numbered states number) refl alive
         record { within = there.within; positive = there.positive; alive = omega (arith, less); fewer = less }
 
 -- the world after an alive thread is stopped
-pub stop_thread-alive : (w : World) (number : ℕ) (d : Thread) → is_thread_alive w number ≡ true → length w.states ≡ length w.threads →
-    stop_thread w number ≡ record w {
-      states = set w.states (number - 1) thread_state.Stopped;
-      threads = set w.threads (number - 1) (ended_by_stop (get_or w.threads (number - 1) d));
-    }
-stop_thread-alive w number d alive beside =
+pub stop_thread-alive : (w : World) (number : ℕ) (t u : Thread) → is_thread_alive w number ≡ true → length w.states ≡ length w.threads →
+    t ≡ get_or w.threads (number - 1) t → u ≡ ended_by_stop t →
+    record w { states = set w.states (number - 1) thread_state.Stopped; threads = set w.threads (number - 1) u } ≡ stop_thread w number
+stop_thread-alive w number t u alive beside there is =
     let stops : Stops w.states number = Stops-alive w.states number alive in
     let within : number - 1 < length w.threads = omega (arith, stops.within) in
-    rw (alive, numbered-at w.threads number d stops.positive within) refl
-
--- and after one that isn't
-pub stop_thread-over : (w : World) (number : ℕ) → is_thread_alive w number ≡ false → stop_thread w number ≡ w
-stop_thread-over w number over = rw over refl
+    let found : numbered w.threads number ≡ Some t = numbered-at w.threads number t stops.positive within ∙ ap Some (sym there) in
+    rw (alive, found, is) refl

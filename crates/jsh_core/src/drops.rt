@@ -28,7 +28,7 @@ fn live_of(generation: &GenerationParts, id: u32) -> Option<&Live>
 
 /// The status of a record that may be taken back.
 fn status_before(live: Option<&Live>) -> Status
-    ensures { result ≡ spec.status_before (option_copied live) }
+    ensures { result ≡ spec.status_before (option_copied live.entry) }
 {
     match live {
         None => Status::Valid,
@@ -38,7 +38,7 @@ fn status_before(live: Option<&Live>) -> Status
 
 /// Whether a declaration with a link loses it.
 fn loses_link(live: Option<&Live>) -> bool
-    ensures { result ≡ spec.loses_link (option_copied live) }
+    ensures { result ≡ spec.loses_link (option_copied live.entry) }
 {
     match live {
         None => false,
@@ -48,7 +48,7 @@ fn loses_link(live: Option<&Live>) -> bool
 
 /// The event of a record that is taken back.
 fn drop_event(alloc: Global, id: u32, live: Option<&Live>) -> Result<Event, NoMemory>
-    ensures { IfOk result (λ event. event ≡ spec.drop_event id (option_copied live)) }
+    ensures { IfOk result (λ event. event ≡ spec.drop_event id (option_copied live.entry)) }
 {
     Ok(Event {
         id,
@@ -151,9 +151,12 @@ fn only_named(live: &[Live], name: &Name) -> Result<u32, usize>
     ensures few { IfErr result (λ count. count ≤ length live.now) }
 {
     let count = live.iter().filter(|live| declares(live, name)).count();
+    if count != 1 {
+        return Err(count);
+    }
     match live.iter().find(|live| declares(live, name)) {
-        Some(found) if count == 1 => Ok(found.id),
-        _ => Err(count),
+        None => Err(count),
+        Some(found) => Ok(found.id),
     }
 }
 

@@ -61,7 +61,7 @@ fn stopper_of(run: &Run) -> u32
 
 /// The outcome of a run whose main thread has ended so.
 fn outcome_with(run: &Run, end: Option<&ThreadEnd>) -> Result<Outcome, NoMemory>
-    ensures { IfOk result (λ outcome. outcome ≡ spec.outcome_with run.now (option_copied end)) }
+    ensures { IfOk result (λ outcome. outcome ≡ spec.outcome_with run.now (option_copied end.entry)) }
 {
     match end {
         Some(ThreadEnd::Returned(text)) => returned_with(text),

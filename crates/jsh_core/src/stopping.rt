@@ -37,6 +37,8 @@ fn end_by_stop(thread: &mut Thread, alloc: Global)
 pub fn stop_thread(world: &mut WorldParts, alloc: Global, number: u32)
     requires world { IsWorld world.old }
     ensures after { world_of world.new ≡ spec.stop_thread (world_of world.old) number }
+    ensures count { length world.new.threads.items ≡ length world.old.threads.items }
+    ensures runs { world.new.runs ≡ world.old.runs }
     ensures world { IsWorld world.new }
     ensures steps { (bound : ℕ) → StepsAtMost bound world.old.threads.items → StepsAtMost bound world.new.threads.items }
 {
@@ -110,6 +112,8 @@ fn count_alive(states: &[ThreadState]) -> usize
 pub fn stop_threads(world: &mut WorldParts, alloc: Global, owner: Option<u32>)
     requires world { IsWorld world.old }
     ensures after { world_of world.new ≡ spec.stop_threads owner (world_of world.old) }
+    ensures count { length world.new.threads.items ≡ length world.old.threads.items }
+    ensures runs { world.new.runs ≡ world.old.runs }
     ensures world { IsWorld world.new }
     ensures steps { (bound : ℕ) → StepsAtMost bound world.old.threads.items → StepsAtMost bound world.new.threads.items }
 {
