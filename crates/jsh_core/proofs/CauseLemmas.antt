@@ -1,11 +1,10 @@
 -- What a step answers has its cause.
-use Rattle.std.proofs.Common.{◌≡◌, ◌≢◌, ℕ, zero, suc, ◌+◌, ◌-◌, ◌<◌, ◌≤◌, ◌==◌, ◌⊎◌, inl, inr, Bool, true, false, List, [], ◌∷◌, ◌++◌, Option, None, Some, length, refl, ap, sym, subst, ◌∙◌, arith, cond, not, add-one}
-use Rattle.std.specs.List.{list_any}
+use Rattle.std.proofs.Common.{◌≡◌, ◌≢◌, ℕ, zero, suc, ◌+◌, ◌<◌, ◌≤◌, ◌⊎◌, inl, inr, Bool, true, false, List, [], ◌∷◌, Option, None, Some, length, refl, ap, sym, subst, ◌∙◌, arith, cond, not, add-one}
 use Rattle.std.specs.Option.{option_and_then, option_map_or, unwrap_or}
 use Rattle.std.specs.Str.{IsUtf8}
 use Rattle.std.proofs.lemmas.Bool.{cases_order}
 use Rattle.jsh_sched.specs.declared.ThreadState.{ThreadState}
-use Rattle.jsh_sched.specs.ThreadState.{is_alive, is_ready}
+use Rattle.jsh_sched.specs.ThreadState.{is_alive}
 use Rattle.jsh_sum.specs.declared.sums.Sum.{Sum}
 use Rattle.jsh_tree.specs.declared.diagnostic.Diagnostic.{Diagnostic}
 use Rattle.jsh_snippet.specs.declared.acts.Act.{Act}
@@ -27,8 +26,6 @@ use Rattle.jsh_snippet.specs.declared.replies.Outcome.{Outcome}
 use Rattle.jsh_snippet.specs.declared.replies.Outcome.TheVariants as outcome
 use Rattle.jsh_snippet.specs.declared.replies.Refusal.{Refusal}
 use Rattle.jsh_snippet.specs.declared.replies.Refusal.TheVariants as refusal
-use Rattle.jsh_snippet.specs.Keys.{temporary_name}
-use Rattle.jsh_verdict.specs.declared.verdict.Verdict.{Verdict}
 use Rattle.jsh_verdict.specs.declared.verdict.Verdict.TheVariants.{Accepted, Rejected}
 use Rattle.jsh_verdict.specs.Verdict.{verdict}
 use Rattle.jsh_verdict.specs.Causes.{IsRejected}
@@ -36,7 +33,6 @@ use Rattle.jsh_verdict.proofs.Because.{accepted_because, rejected_because}
 use Rattle.jsh_verdict.proofs.Decides.{accepts, rejects}
 use Rattle.jsh_core.specs.declared.generation.Live.{Live}
 use Rattle.jsh_core.specs.declared.world.Run.{Run}
-use Rattle.jsh_core.specs.declared.world.RunView.{RunView}
 use Rattle.jsh_core.specs.declared.world.Thread.{Thread}
 use Rattle.jsh_core.specs.declared.world.ThreadEnd.{ThreadEnd}
 use Rattle.jsh_core.specs.declared.world.ThreadEnd.TheVariants as thread_end
@@ -519,9 +515,9 @@ drop_name-causes s name acted (only live one is) = subst (λ (a : Acted). Causes
     λ c. absurd (c.1 (sym c.0 ∙ ap length one)),
   );
   found = λ other two. (
-    let both : live ∷ [] ≡ other ∷ [] = sym one ∙ two in
-    let same : live ≡ other = cc in
-    subst (λ (l : Live). CausesOfDropId s l.id (drop_id s live.id).body) same (drop_id-causes s live.id (drop_id s live.id) (view-drop_id s live.id)));
+      let both : live ∷ [] ≡ other ∷ [] = sym one ∙ two in
+      let same : live ≡ other = cc in
+      subst (λ (l : Live). CausesOfDropId s l.id (drop_id s live.id).body) same (drop_id-causes s live.id (drop_id s live.id) (view-drop_id s live.id)));
 })
 
 drop-causes : (s : State) (what : Target) → CausesOfDrop s what (drop_snippet s what).body

@@ -1,9 +1,7 @@
 -- What an act on a run is answered.
-use Rattle.std.proofs.Common.{◌≡◌, ◌≢◌, ℕ, Bool, true, false, List, [], ◌∷◌, Option, None, Some, not, refl, ap, sym, subst, ◌∙◌}
+use Rattle.std.proofs.Common.{◌≡◌, ◌≢◌, ℕ, true, false, None, Some, not, refl, ap, sym, ◌∙◌}
 use Rattle.std.specs.List.{list_any}
 use Rattle.jsh_snippet.specs.declared.acts.Act.TheVariants as act
-use Rattle.jsh_snippet.specs.declared.replies.Refusal.{Refusal}
-use Rattle.jsh_snippet.specs.declared.replies.ReplyBody.{ReplyBody}
 use Rattle.jsh_snippet.specs.declared.replies.ReplyBody.TheVariants as body
 use Rattle.jsh_snippet.specs.declared.replies.Collected.TheVariants as «collected»
 use Rattle.jsh_snippet.specs.declared.replies.LimitKind.{LimitKind}
@@ -15,7 +13,7 @@ use Rattle.jsh_core.specs.declared.world.RunView.{RunView}
 use Rattle.jsh_core.specs.State.{State, Acted, numbered}
 use Rattle.jsh_core.specs.Threads.{is_thread_alive}
 use Rattle.jsh_core.specs.Runs.{alive_threads, collect, expire, outcome_of, run_view, steps_so_far, stop}
-use Rattle.jsh_core.specs.Step.{act_step, delivered, step}
+use Rattle.jsh_core.specs.Step.{delivered, step}
 use Rattle.jsh_core.specs.Causes.{IsOwnRun, over_with}
 use Rattle.jsh_core.proofs.DeliveryLaws.{IsDelivered, by, delivers}
 use Rattle.jsh_core.proofs.FateLemmas.{owns-shown}

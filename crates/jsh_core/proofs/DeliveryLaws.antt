@@ -1,5 +1,5 @@
 -- A step differs from its act by the output that its reply hands over, and by nothing else.
-use Rattle.std.proofs.Common.{◌≡◌, ℕ, Bool, true, false, List, [], set, length, length-set, refl, cond}
+use Rattle.std.proofs.Common.{◌≡◌, ℕ, Bool, true, false, [], set, length, length-set, refl, cond}
 use Rattle.jsh_snippet.specs.declared.acts.Act.{Act}
 use Rattle.jsh_snippet.specs.declared.acts.Act.TheVariants as act
 use Rattle.jsh_snippet.specs.declared.acts.Entry.{Entry}
@@ -39,11 +39,26 @@ delivers client acted = from (hands_over acted.body)
   where
     from : (over : Bool) → IsDelivered acted (cond over (handed client acted) (withheld acted))
     from true = record {
-      book = refl; generation = refl; clients = refl; cells = refl; states = refl; threads = refl; runs = refl; body = refl;
+      book = refl;
+      generation = refl;
+      clients = refl;
+      cells = refl;
+      states = refl;
+      threads = refl;
+      runs = refl;
+      body = refl;
       pending = length-set acted.state.world.pending client [];
     }
     from false = record {
-      book = refl; generation = refl; clients = refl; cells = refl; states = refl; threads = refl; runs = refl; body = refl; pending = refl;
+      book = refl;
+      generation = refl;
+      clients = refl;
+      cells = refl;
+      states = refl;
+      threads = refl;
+      runs = refl;
+      body = refl;
+      pending = refl;
     }
 
 -- where nothing is handed over, the state is that of the act

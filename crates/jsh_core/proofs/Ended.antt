@@ -1,28 +1,25 @@
 -- Threads and runs that have ended stay as they are, and how runs end.
-use Rattle.std.proofs.Common.{◌≡◌, ◌≢◌, ◌⊎◌, inl, inr, ℕ, ◌+◌, ◌-◌, ◌<◌, ◌≤◌, ◌==◌, Bool, true, false, List, [], ◌∷◌, ◌++◌, set, Option, None, Some, length, refl, ap, sym, subst, ◌∙◌, arith, cond}
-use Rattle.std.specs.Option.{option_and_then, option_map_or}
+use Rattle.std.proofs.Common.{◌≡◌, ℕ, ◌-◌, Bool, true, false, List, set, None, Some, refl, ap, sym, subst, ◌∙◌, cond}
 use Rattle.jsh_snippet.specs.declared.acts.Act.{Act}
 use Rattle.jsh_snippet.specs.declared.acts.Act.TheVariants as act
 use Rattle.jsh_snippet.specs.declared.acts.Entry.{Entry}
-use Rattle.jsh_snippet.specs.declared.acts.Target.{Target}
 use Rattle.jsh_snippet.specs.declared.acts.Target.TheVariants as target
 use Rattle.jsh_snippet.specs.declared.replies.Outcome.{Outcome}
 use Rattle.jsh_snippet.specs.declared.replies.Outcome.TheVariants as outcome
 use Rattle.jsh_sched.specs.declared.ThreadState.{ThreadState}
 use Rattle.jsh_sched.specs.ThreadState.{is_alive}
-use Rattle.jsh_core.specs.declared.world.Body.{Body}
 use Rattle.jsh_core.specs.declared.world.Run.{Run}
 use Rattle.jsh_core.specs.declared.world.Thread.{Thread}
 use Rattle.jsh_core.specs.State.{State, Acted, World, numbered}
 use Rattle.jsh_core.specs.Snippets.{submitted}
-use Rattle.jsh_core.specs.Threads.{is_thread_alive, stop_thread, stop_threads, turned}
+use Rattle.jsh_core.specs.Threads.{is_thread_alive, stop_thread, stop_threads}
 use Rattle.jsh_core.specs.Runs.{alive_threads, collect, expire, given_up, stop, stop_run}
 use Rattle.jsh_core.specs.Drops.{drop_id, drop_snippet}
 use Rattle.jsh_core.specs.Clients.{enter}
 use Rattle.jsh_core.specs.Step.{act_step, delivered, step}
 use Rattle.jsh_core.proofs.DeliveryLaws.{IsDelivered, delivers}
 use Rattle.jsh_core.proofs.Numbered.{numbered-append}
-use Rattle.jsh_core.proofs.ThreadLaws.{GoesOver, GoesOver-same, IsLater, IsLater-same, stop_thread-over, stop_threads-over, turned-over}
+use Rattle.jsh_core.proofs.ThreadLaws.{GoesOver, GoesOver-same, IsLater-same, stop_thread-over, stop_threads-over, turned-over}
 use Rattle.jsh_core.proofs.Views.{Collects, DropsId, DropsName, Enters, Expires, Stops, Submits, view-collect, view-drop_id, view-drop_name, view-enter, view-expire, view-stop, view-submit}
 use Rattle.jsh_core.proofs.Views.{absent, accepted, crowded, drops, ended, enters, foreign, full, idle, only, rejected, running, spent, stalled, standing, unclear}
 

@@ -1,6 +1,6 @@
 -- A run can be seen exactly where the history made it and hasn't taken it away.
-use Rattle.std.proofs.Common.{◌≡◌, ◌≢◌, ◌↔◌, ℕ, zero, suc, ◌+◌, ◌-◌, ◌<◌, ◌≤◌, ◌==◌, ◌⊎◌, inl, inr, Bool, true, false, List, [], ◌∷◌, ◌++◌, map, set, Option, None, Some, length, refl, ap, sym, subst, ◌∙◌, arith, cond, not}
-use Rattle.std.specs.Option.{option_and_then, option_map}
+use Rattle.std.proofs.Common.{◌≡◌, ◌≢◌, ◌↔◌, ℕ, ◌+◌, ◌-◌, ◌<◌, ◌==◌, ◌⊎◌, inl, inr, Bool, true, false, List, [], ◌∷◌, ◌++◌, map, set, Option, None, Some, length, refl, ap, sym, subst, ◌∙◌, cond, not}
+use Rattle.std.specs.Option.{option_map}
 use Rattle.std.proofs.lemmas.Bool.{eqb-true, eqb-false, cases_eq}
 use Rattle.jsh_snippet.specs.declared.acts.Act.{Act}
 use Rattle.jsh_snippet.specs.declared.acts.Act.TheVariants as act
@@ -12,10 +12,10 @@ use Rattle.jsh_snippet.specs.declared.replies.Outcome.{Outcome}
 use Rattle.jsh_snippet.specs.declared.replies.Outcome.TheVariants as outcome
 use Rattle.jsh_core.specs.declared.world.Run.{Run}
 use Rattle.jsh_core.specs.declared.world.RunView.{RunView}
-use Rattle.jsh_core.specs.State.{State, Acted, World, numbered, opening}
+use Rattle.jsh_core.specs.State.{State, Acted, numbered, opening}
 use Rattle.jsh_core.specs.Snippets.{run_of, submitted}
-use Rattle.jsh_core.specs.Threads.{is_thread_alive, stop_thread, turned}
-use Rattle.jsh_core.specs.Runs.{alive_threads, collect, dropped, dropped_for, expire, given_up, over, run_view, stop, stop_run, view_of}
+use Rattle.jsh_core.specs.Threads.{is_thread_alive, stop_thread}
+use Rattle.jsh_core.specs.Runs.{alive_threads, collect, dropped, dropped_for, expire, given_up, over, run_view, stop}
 use Rattle.jsh_core.specs.Drops.{drop_id, drop_snippet}
 use Rattle.jsh_core.specs.Clients.{enter}
 use Rattle.jsh_core.specs.Step.{act_step, delivered, step}
@@ -23,8 +23,8 @@ use Rattle.jsh_core.specs.Causes.{IsOwnRun}
 use Rattle.jsh_core.specs.Fates.{HandsOut, HasRun, Makes, Stays, Takes, TakesAway, WasMade, is_over}
 use Rattle.jsh_core.specs.History.{state_after, state_of}
 use Rattle.jsh_core.proofs.DeliveryLaws.{IsDelivered, delivers}
-use Rattle.jsh_core.proofs.Numbered.{numbered-append, numbered-longer, numbered-map, numbered-mapped, numbered-set, numbered-set_other, numbered-within}
-use Rattle.jsh_core.proofs.Reached.{SameRun, SameRun-same, gone-same, new_run, none-numbered}
+use Rattle.jsh_core.proofs.Numbered.{numbered-append, numbered-longer, numbered-map, numbered-mapped, numbered-set, numbered-set_other}
+use Rattle.jsh_core.proofs.Reached.{SameRun, SameRun-same, new_run, none-numbered}
 use Rattle.jsh_core.proofs.ThreadLaws.{LeavesOthers, stop_thread-leaves, turned-leaves}
 use Rattle.jsh_core.proofs.Views.{Collects, DropsId, DropsName, Enters, Expires, Stops, Submits, run_view-of, view-collect, view-drop_id, view-drop_name, view-enter, view-expire, view-stop, view-submit}
 use Rattle.jsh_core.proofs.Views.{absent, accepted, crowded, drops, ended, enters, foreign, full, idle, only, rejected, running, spent, stalled, standing, unclear}

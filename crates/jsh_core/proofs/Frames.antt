@@ -1,6 +1,5 @@
 -- Which parts of a state each act leaves as they were.
-use Rattle.std.proofs.Common.{◌≡◌, ℕ, ◌-◌, Bool, true, false, List, [], ◌∷◌, set, Option, None, Some, refl, ap, sym, subst, cond}
-use Rattle.jsh_snippet.specs.declared.acts.Act.{Act}
+use Rattle.std.proofs.Common.{◌≡◌, ℕ, ◌-◌, Bool, true, false, List, set, Some, refl, ap, sym, subst, cond}
 use Rattle.jsh_snippet.specs.declared.acts.Act.TheVariants as act
 use Rattle.jsh_snippet.specs.declared.acts.Question.{Question}
 use Rattle.jsh_snippet.specs.declared.acts.Target.{Target}
@@ -8,9 +7,9 @@ use Rattle.jsh_snippet.specs.declared.acts.Target.TheVariants as target
 use Rattle.jsh_snippet.specs.declared.replies.Outcome.{Outcome}
 use Rattle.jsh_snippet.specs.declared.replies.Outcome.TheVariants as outcome
 use Rattle.jsh_core.specs.declared.world.Run.{Run}
-use Rattle.jsh_core.specs.State.{State, Acted, World, numbered}
+use Rattle.jsh_core.specs.State.{State, Acted, World}
 use Rattle.jsh_core.specs.Snippets.{submitted}
-use Rattle.jsh_core.specs.Threads.{is_thread_alive, stop_found, stop_thread, turned}
+use Rattle.jsh_core.specs.Threads.{is_thread_alive, stop_thread, turned}
 use Rattle.jsh_core.specs.Runs.{alive_threads, collect, expire, given_up, stop, stop_run}
 use Rattle.jsh_core.specs.Drops.{drop_id, drop_snippet}
 use Rattle.jsh_core.specs.Clients.{enter}

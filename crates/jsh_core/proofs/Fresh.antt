@@ -1,12 +1,10 @@
 -- A run that was just made.
-use Rattle.std.proofs.Common.{◌≡◌, ℕ, ◌+◌, ◌-◌, ◌<◌, ◌≤◌, ◌==◌, Bool, true, false, List, [], ◌∷◌, ◌++◌, Option, None, Some, length, length-append, refl, ap, sym, subst, ◌∙◌, arith, cond}
+use Rattle.std.proofs.Common.{◌≡◌, ℕ, ◌+◌, Bool, true, false, List, [], ◌∷◌, Option, None, Some, length, length-append, refl, ap, sym, subst, ◌∙◌}
 use Rattle.std.specs.Option.{option_map_or}
 use Rattle.jsh_snippet.specs.declared.acts.Act.{Act}
 use Rattle.jsh_snippet.specs.declared.acts.Act.TheVariants as act
-use Rattle.jsh_snippet.specs.declared.acts.Target.{Target}
 use Rattle.jsh_snippet.specs.declared.acts.Target.TheVariants as target
 use Rattle.jsh_snippet.specs.declared.replies.ReplyBody.{ReplyBody}
-use Rattle.jsh_snippet.specs.declared.replies.ReplyBody.TheVariants as body
 use Rattle.jsh_sched.specs.declared.ThreadState.{ThreadState}
 use Rattle.jsh_sched.specs.declared.ThreadState.TheVariants as thread_state
 use Rattle.jsh_sched.specs.ThreadState.{is_alive, is_ready}
@@ -16,8 +14,7 @@ use Rattle.jsh_verdict.specs.Verdict.{verdict}
 use Rattle.jsh_core.specs.declared.world.Body.{Body}
 use Rattle.jsh_core.specs.declared.world.Run.{Run}
 use Rattle.jsh_core.specs.declared.world.Thread.{Thread}
-use Rattle.jsh_core.specs.State.{State, Acted, Stepped, numbered}
-use Rattle.jsh_core.specs.Generations.{with_live}
+use Rattle.jsh_core.specs.State.{State, Acted, numbered}
 use Rattle.jsh_core.specs.Snippets.{accepted_plan, main_thread, new_link, published, run_of, submitted}
 use Rattle.jsh_core.specs.Threads.{can_go_on, is_thread_alive}
 use Rattle.jsh_core.specs.Runs.{collect, expire, stop}
@@ -82,16 +79,19 @@ runless-submitted s client after answered none threads states runs clients = rec
 -- the run of a snippet that is accepted evaluates its sum
 accepted-fresh : (s : State) (client : ℕ) (source : List ℕ) (sum : Sum) (run : ℕ) → length s.world.states ≡ length s.world.threads → Some (length s.world.runs + 1) ≡ Some run →
     (f : IsFresh (published s client (accepted_plan s.generation (length s.book + 1) source sum)).state client run) × (f.what.sum ≡ sum)
-accepted-fresh s client source sum run fits e = (record {
-  main = length s.world.threads + 1;
-  snippet = length s.book + 1;
-  what = what;
-  newest = sym (length-append s.world.threads (main_thread client what ∷ []));
-  last = number e ∙ sym (length-append s.world.runs (new_run client (length s.world.threads + 1) (length s.book + 1) ∷ []));
-  run_is = numbered-push s.world.runs run (new_run client (length s.world.threads + 1) (length s.book + 1)) (number e);
-  thread_is = numbered-push s.world.threads (length s.world.threads + 1) (main_thread client what) refl;
-  state_is = numbered-push s.world.states (length s.world.threads + 1) thread_state.Ready (ap (λ n. n + 1) (sym fits));
-}, refl)
+accepted-fresh s client source sum run fits e = (
+  record {
+    main = length s.world.threads + 1;
+    snippet = length s.book + 1;
+    what = what;
+    newest = sym (length-append s.world.threads (main_thread client what ∷ []));
+    last = number e ∙ sym (length-append s.world.runs (new_run client (length s.world.threads + 1) (length s.book + 1) ∷ []));
+    run_is = numbered-push s.world.runs run (new_run client (length s.world.threads + 1) (length s.book + 1)) (number e);
+    thread_is = numbered-push s.world.threads (length s.world.threads + 1) (main_thread client what) refl;
+    state_is = numbered-push s.world.states (length s.world.threads + 1) thread_state.Ready (ap (λ n. n + 1) (sym fits));
+  },
+  refl,
+)
   where
     what : Body
     what = record { variable = new_link s.generation (length s.book + 1); sum = sum }
@@ -230,13 +230,16 @@ submit-sum s client source run fits made = moved (old (submitted s client source
 
     moved : (f : IsFresh (submitted s client source).state client run) × (verdict source ≡ Accepted f.what.sum) →
         (f : IsFresh (delivered client (submitted s client source)).state client run) × (verdict source ≡ Accepted f.what.sum)
-    moved (f, found) = (record {
-      main = f.main;
-      snippet = f.snippet;
-      what = f.what;
-      newest = f.newest ∙ sym (ap length is.threads);
-      last = f.last ∙ sym (ap length is.runs);
-      run_is = ap (λ (l : List Run). numbered l run) is.runs ∙ f.run_is;
-      thread_is = ap (λ (l : List Thread). numbered l f.main) is.threads ∙ f.thread_is;
-      state_is = ap (λ (l : List ThreadState). numbered l f.main) is.states ∙ f.state_is;
-    }, found)
+    moved (f, found) = (
+      record {
+        main = f.main;
+        snippet = f.snippet;
+        what = f.what;
+        newest = f.newest ∙ sym (ap length is.threads);
+        last = f.last ∙ sym (ap length is.runs);
+        run_is = ap (λ (l : List Run). numbered l run) is.runs ∙ f.run_is;
+        thread_is = ap (λ (l : List Thread). numbered l f.main) is.threads ∙ f.thread_is;
+        state_is = ap (λ (l : List ThreadState). numbered l f.main) is.states ∙ f.state_is;
+      },
+      found,
+    )

@@ -1,10 +1,9 @@
 -- Numbers only grow.
-use Rattle.std.proofs.Common.{◌≡◌, ℕ, suc, ◌+◌, ◌-◌, ◌≤◌, ◌==◌, Bool, true, false, not, List, [], ◌∷◌, ◌++◌, map, set, filter, Option, None, Some, length, length-set, length-append, refl, ap, sym, subst, ◌∙◌, arith, cond}
+use Rattle.std.proofs.Common.{◌≡◌, ℕ, suc, ◌+◌, ◌-◌, ◌≤◌, Bool, true, false, List, [], ◌∷◌, map, set, Option, None, Some, length, length-set, length-append, refl, ap, sym, subst, ◌∙◌, arith, cond}
 use Rattle.std.proofs.Math.Nat.{le_refl}
 use Rattle.jsh_snippet.specs.declared.acts.Act.{Act}
 use Rattle.jsh_snippet.specs.declared.acts.Act.TheVariants as act
 use Rattle.jsh_snippet.specs.declared.acts.Entry.{Entry}
-use Rattle.jsh_snippet.specs.declared.acts.Target.{Target}
 use Rattle.jsh_snippet.specs.declared.acts.Target.TheVariants as target
 use Rattle.jsh_snippet.specs.declared.replies.Outcome.{Outcome}
 use Rattle.jsh_snippet.specs.declared.replies.Outcome.TheVariants as outcome
@@ -12,7 +11,7 @@ use Rattle.jsh_sched.specs.declared.ThreadState.{ThreadState}
 use Rattle.jsh_core.specs.declared.generation.Live.{Live}
 use Rattle.jsh_core.specs.declared.world.Run.{Run}
 use Rattle.jsh_core.specs.declared.world.Thread.{Thread}
-use Rattle.jsh_core.specs.State.{State, Acted, World, Generation, numbered}
+use Rattle.jsh_core.specs.State.{State, Acted, Generation}
 use Rattle.jsh_core.specs.Snippets.{submitted}
 use Rattle.jsh_core.specs.Threads.{is_thread_alive, stop_thread, stop_threads, turned}
 use Rattle.jsh_core.specs.Runs.{alive_threads, collect, dropped, dropped_for, expire, given_up, stop, stop_run}

@@ -1,13 +1,11 @@
 -- What holds of every state that an engine comes to.
 use Rattle.std.proofs.Common.{◌≡◌, ◌≢◌, ◌⊎◌, inl, inr, ℕ, zero, suc, ◌+◌, ◌-◌, ◌<◌, ◌≤◌, ◌==◌, Bool, true, false, List, [], ◌∷◌, ◌++◌, map, set, Option, None, Some, length, length-set, length-append, refl, ap, sym, subst, ◌∙◌, arith, cond}
 use Rattle.std.specs.Prelude.{◌&&◌}
-use Rattle.std.specs.List.{slice_get}
 use Rattle.std.specs.Option.{option_map_or}
-use Rattle.std.proofs.lemmas.Bool.{cases_eq, eqb-true, eqb-false, ne_eqb}
+use Rattle.std.proofs.lemmas.Bool.{cases_eq}
 use Rattle.jsh_snippet.specs.declared.acts.Act.{Act}
 use Rattle.jsh_snippet.specs.declared.acts.Act.TheVariants as act
 use Rattle.jsh_snippet.specs.declared.acts.Entry.{Entry}
-use Rattle.jsh_snippet.specs.declared.acts.Target.{Target}
 use Rattle.jsh_snippet.specs.declared.acts.Target.TheVariants as target
 use Rattle.jsh_snippet.specs.declared.replies.Outcome.{Outcome}
 use Rattle.jsh_snippet.specs.declared.replies.Outcome.TheVariants as outcome
@@ -19,19 +17,18 @@ use Rattle.jsh_core.specs.declared.world.Frame.{Frame}
 use Rattle.jsh_core.specs.declared.world.Run.{Run}
 use Rattle.jsh_core.specs.declared.world.Thread.{Thread}
 use Rattle.jsh_core.specs.State.{State, World, Acted, numbered, opening}
-use Rattle.jsh_core.specs.Snippets.{accepted_plan, main_thread, published, rejected_plan, submitted}
-use Rattle.jsh_core.specs.Threads.{Next, can_go_on, ended_by_stop, frames_step, is_owned, is_thread_alive, next, performed, stepped, stop_thread, stop_threads, thread_step, turn, turned, Turned}
+use Rattle.jsh_core.specs.Snippets.{main_thread, submitted}
+use Rattle.jsh_core.specs.Threads.{Next, can_go_on, frames_step, is_thread_alive, next, performed, stepped, stop_thread, stop_threads, thread_step, turned, Turned}
 use Rattle.jsh_core.specs.Threads.Next.{Sets, Returns}
-use Rattle.jsh_core.specs.Runs.{alive_threads, collect, dropped, dropped_for, expire, given_up, handed_out, over, set_gone, stop, stop_run}
+use Rattle.jsh_core.specs.Runs.{alive_threads, collect, dropped, dropped_for, expire, given_up, over, stop, stop_run}
 use Rattle.jsh_core.specs.Drops.{drop_id, drop_snippet}
-use Rattle.jsh_core.specs.Clients.{enter, leave, reset}
+use Rattle.jsh_core.specs.Clients.{enter}
 use Rattle.jsh_core.specs.Step.{act_step, delivered, hands_over, step}
-use Rattle.jsh_core.specs.Causes.{IsOwnRun}
 use Rattle.jsh_core.specs.History.{state_after, state_of}
 use Rattle.jsh_core.proofs.DeliveryLaws.{handed, withheld}
 use Rattle.jsh_core.proofs.Numbered.{numbered-append, numbered-longer, numbered-mapped, numbered-set, numbered-set_other, numbered-within}
 use Rattle.jsh_core.proofs.Sums.{AreOnSums, sum-main, sums-lengths, sums-push, sums-stop_thread, sums-stopped, sums-turned}
-use Rattle.jsh_core.proofs.ThreadLaws.{GoesOver, GoesOver-same, LeavesOthers, is_stopped_with, stepped-leaves, stop_thread-leaves, stop_thread-over, stop_threads-over, stopped-at, turned-leaves, turned-over}
+use Rattle.jsh_core.proofs.ThreadLaws.{GoesOver, GoesOver-same, LeavesOthers, stop_thread-leaves, stop_thread-over, stop_threads-over, stopped-at, turned-leaves, turned-over}
 use Rattle.jsh_core.proofs.TurnLemmas.{turned-stuck, turned-suc, turned-zero}
 use Rattle.jsh_core.proofs.Views.{Collects, DropsId, DropsName, Enters, Expires, Stops, Submits, view-collect, view-drop_id, view-drop_name, view-enter, view-expire, view-stop, view-submit}
 use Rattle.jsh_core.proofs.Views.{absent, accepted, crowded, drops, ended, enters, foreign, full, idle, only, rejected, running, spent, stalled, standing, unclear}

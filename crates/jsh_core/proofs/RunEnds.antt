@@ -1,12 +1,11 @@
 -- How runs end: an ended run keeps its outcome, and nothing ends one but its own steps, a stop of it, and what takes it away.
-use Rattle.std.proofs.Common.{◌≡◌, ◌≢◌, ◌⊎◌, inl, inr, ℕ, ◌+◌, ◌-◌, ◌<◌, ◌≤◌, ◌==◌, Bool, true, false, List, [], ◌∷◌, ◌++◌, set, Option, None, Some, length, refl, ap, sym, subst, ◌∙◌, arith, cond}
+use Rattle.std.proofs.Common.{◌≡◌, ◌≢◌, ◌⊎◌, inl, inr, ℕ, ◌-◌, ◌==◌, Bool, true, false, List, set, Option, Some, refl, ap, sym, subst, ◌∙◌, cond}
 use Rattle.std.specs.Prelude.{◌&&◌}
 use Rattle.std.specs.Option.{option_and_then, option_map_or, unwrap_or}
 use Rattle.std.proofs.lemmas.Bool.{cases_eq, ne_eqb}
 use Rattle.jsh_snippet.specs.declared.acts.Act.{Act}
 use Rattle.jsh_snippet.specs.declared.acts.Act.TheVariants as act
 use Rattle.jsh_snippet.specs.declared.acts.Entry.{Entry}
-use Rattle.jsh_snippet.specs.declared.acts.Target.{Target}
 use Rattle.jsh_snippet.specs.declared.acts.Target.TheVariants as target
 use Rattle.jsh_snippet.specs.declared.replies.Outcome.{Outcome}
 use Rattle.jsh_snippet.specs.declared.replies.Outcome.TheVariants as outcome
@@ -16,12 +15,10 @@ use Rattle.jsh_sched.specs.declared.ThreadState.TheVariants as thread_state
 use Rattle.jsh_sched.specs.ThreadState.{is_alive}
 use Rattle.jsh_core.specs.declared.world.Run.{Run}
 use Rattle.jsh_core.specs.declared.world.Thread.{Thread}
-use Rattle.jsh_core.specs.declared.world.ThreadEnd.{ThreadEnd}
-use Rattle.jsh_core.specs.declared.world.ThreadEnd.TheVariants as thread_end
 use Rattle.jsh_core.specs.State.{State, Acted, World, numbered}
 use Rattle.jsh_core.specs.Snippets.{submitted}
-use Rattle.jsh_core.specs.Threads.{ended_by_stop, is_owned, is_thread_alive, stop_thread, stop_threads, turned}
-use Rattle.jsh_core.specs.Runs.{alive_threads, collect, expire, given_up, outcome_of, outcome_with, stop, stop_run}
+use Rattle.jsh_core.specs.Threads.{ended_by_stop, is_thread_alive, stop_thread, turned}
+use Rattle.jsh_core.specs.Runs.{alive_threads, collect, expire, given_up, outcome_of, outcome_with, stop}
 use Rattle.jsh_core.specs.Drops.{drop_id, drop_snippet}
 use Rattle.jsh_core.specs.Clients.{enter}
 use Rattle.jsh_core.specs.Step.{act_step, delivered, step}

@@ -1,5 +1,5 @@
 -- What a run in a later state has come of: who has stopped it, and what it evaluates.
-use Rattle.std.proofs.Common.{◌≡◌, ◌≢◌, ◌↔◌, ◌⊎◌, inl, inr, ℕ, ◌+◌, ◌-◌, ◌<◌, ◌≤◌, Bool, true, false, not, List, [], ◌∷◌, ◌++◌, set, Option, None, Some, length, refl, ap, sym, subst, ◌∙◌, arith, cond}
+use Rattle.std.proofs.Common.{◌≡◌, ◌↔◌, ◌⊎◌, inl, inr, ℕ, ◌-◌, ◌≤◌, Bool, true, false, not, List, [], ◌∷◌, set, Option, None, Some, length, refl, ap, sym, subst, ◌∙◌, arith, cond}
 use Rattle.std.specs.Fmt.{signed_decimal}
 use Rattle.std.specs.Option.{option_map_or}
 use Rattle.std.proofs.lemmas.Bool.{cases_eq}
@@ -16,18 +16,17 @@ use Rattle.jsh_verdict.specs.Verdict.{verdict}
 use Rattle.jsh_core.specs.declared.world.Body.{Body}
 use Rattle.jsh_core.specs.declared.world.Run.{Run}
 use Rattle.jsh_core.specs.declared.world.RunView.{RunView}
-use Rattle.jsh_core.specs.State.{State, Acted, World, numbered, opening}
+use Rattle.jsh_core.specs.State.{State, Acted, numbered, opening}
 use Rattle.jsh_core.specs.Snippets.{run_of}
 use Rattle.jsh_core.specs.Threads.{is_thread_alive, stop_thread}
 use Rattle.jsh_core.specs.Runs.{outcome_of, run_view, stop, stop_run}
 use Rattle.jsh_core.specs.Step.{delivered, step}
 use Rattle.jsh_core.specs.Causes.{IsOwnRun}
-use Rattle.jsh_core.specs.Fates.{Halts, Makes, StopsRun, TakesAway, WasHalted, WasStopped}
+use Rattle.jsh_core.specs.Fates.{Halts, Makes, TakesAway, WasHalted, WasStopped}
 use Rattle.jsh_core.specs.History.{state_after, state_of}
 use Rattle.jsh_core.proofs.Collecting.{own-view}
 use Rattle.jsh_core.proofs.DeliveryLaws.{IsDelivered, by, delivers}
-use Rattle.jsh_core.proofs.FateLemmas.{IsStopOf}
-use Rattle.jsh_core.proofs.Fresh.{IsFresh, is_submit, runless, submit-answers, submit-sum}
+use Rattle.jsh_core.proofs.Fresh.{IsFresh, runless, submit-answers, submit-sum}
 use Rattle.jsh_core.proofs.Growing.{Grows, step-grows}
 use Rattle.jsh_core.proofs.Numbered.{numbered-set, numbered-within}
 use Rattle.jsh_core.proofs.OwnRuns.{run-came, run-new, run-same, view-own}
@@ -309,7 +308,7 @@ value-history history more client source sum number run accepted made own dead =
         let main : run.main ≡ f.main = alike.main ∙ ap (λ (x : Run). x.main) the_run in
         let evaluates : IsEvaluating (state_after (step (state_of history) (by client (act.Submit source))).state more) run.main f.what =
         subst (λ n. IsEvaluating (state_after (step (state_of history) (by client (act.Submit source))).state more) n f.what) (sym main)
-            (evaluating-after (step (state_of history) (by client (act.Submit source))).state more f.main f.what (fresh-evaluating (step (state_of history) (by client (act.Submit source))).state client number f)) in
+        (evaluating-after (step (state_of history) (by client (act.Submit source))).state more f.main f.what (fresh-evaluating (step (state_of history) (by client (act.Submit source))).state client number f)) in
         value f.what the_sum (evaluated (state_after (step (state_of history) (by client (act.Submit source))).state more) client number run f.what r own dead evaluates)
       where
         value : (what : Body) → what.sum ≡ sum →

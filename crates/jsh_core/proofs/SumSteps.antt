@@ -1,5 +1,5 @@
 -- On sums a thread that isn't stopped is over after exactly two steps of it, whoever takes them, in any number of turns.
-use Rattle.std.proofs.Common.{◌≡◌, ◌≢◌, ◌⊎◌, inl, inr, ℕ, zero, suc, ◌+◌, ◌-◌, ◌<◌, ◌≤◌, Bool, true, false, List, [], ◌∷◌, set, Option, None, Some, refl, ap, sym, subst, ◌∙◌, arith, add-zero}
+use Rattle.std.proofs.Common.{◌≡◌, ◌⊎◌, inl, inr, ℕ, zero, suc, ◌+◌, ◌<◌, ◌≤◌, Bool, true, false, [], Option, None, Some, refl, ap, sym, subst, ◌∙◌, arith, add-zero}
 use Rattle.std.specs.Fmt.{signed_decimal}
 use Rattle.std.specs.Option.{option_map_or}
 use Rattle.jsh_snippet.specs.declared.acts.Act.TheVariants as act
@@ -11,12 +11,10 @@ use Rattle.jsh_sched.specs.ThreadState.{is_alive, is_ready}
 use Rattle.jsh_sched.specs.Pick.{picked}
 use Rattle.jsh_sum.specs.Sum.{value_of}
 use Rattle.jsh_core.specs.declared.world.Thread.{Thread}
-use Rattle.jsh_core.specs.declared.world.ThreadEnd.TheVariants as thread_end
 use Rattle.jsh_core.specs.State.{State, World, numbered}
 use Rattle.jsh_core.specs.Threads.{can_go_on, is_thread_alive, performed, stepped, thread_answered, thread_returned, turned, Turned}
 use Rattle.jsh_core.specs.Threads.Next.{Sets, Returns}
 use Rattle.jsh_core.specs.Step.{step}
-use Rattle.jsh_core.specs.Causes.{SomeGoesOn}
 use Rattle.jsh_core.proofs.DeliveryLaws.{by}
 use Rattle.jsh_core.proofs.Ended.{step-over}
 use Rattle.jsh_core.proofs.Numbered.{numbered-beside, numbered-set}
@@ -25,7 +23,7 @@ use Rattle.jsh_core.proofs.Reached.{IsReached, reached-fits}
 use Rattle.jsh_core.proofs.Sums.{AreOnSums, IsOnSum, stepped-answered, stepped-begun, sums-at, sums-lengths, sums-stepped}
 use Rattle.jsh_core.proofs.Sums.IsOnSum.{answered, begun, returned, stopped}
 use Rattle.jsh_core.proofs.ThreadLaws.{GoesOver, frame_answered, frame_begun, ready-at}
-use Rattle.jsh_core.proofs.TurnLemmas.{further, turned-stuck, turned-suc, turned-zero}
+use Rattle.jsh_core.proofs.TurnLemmas.{turned-stuck, turned-suc, turned-zero}
 
 -- the steps that the thread with this number has done
 abbrev pub steps_of : World → ℕ → ℕ

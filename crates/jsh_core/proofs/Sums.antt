@@ -1,23 +1,21 @@
 -- On sums each thread is ready before its first or its second step, or has returned, or was stopped.
-use Rattle.std.proofs.Common.{◌≡◌, ℕ, zero, suc, ◌+◌, ◌-◌, ◌<◌, ◌==◌, Bool, true, false, List, [], ◌∷◌, ◌++◌, Option, None, Some, length, set, refl, ap, sym, subst, ◌∙◌, arith, cond}
+use Rattle.std.proofs.Common.{◌≡◌, ℕ, zero, suc, ◌-◌, ◌<◌, Bool, true, false, List, [], ◌∷◌, ◌++◌, Option, None, Some, length, set, refl, ap, sym, subst, ◌∙◌, arith, cond}
 use Rattle.std.specs.Prelude.{◌&&◌}
 use Rattle.std.specs.List.{slice_get}
 use Rattle.std.specs.Fmt.{signed_decimal}
 use Rattle.std.specs.Option.{option_map_or}
-use Rattle.jsh_text.specs.declared.value.Value.TheVariants as value
 use Rattle.jsh_sched.specs.declared.ThreadState.{ThreadState}
 use Rattle.jsh_sched.specs.declared.ThreadState.TheVariants as thread_state
 use Rattle.jsh_sched.specs.ThreadState.{is_alive, is_ready}
 use Rattle.jsh_sum.specs.Sum.{value_of}
-use Rattle.jsh_core.specs.declared.world.Answer.TheVariants as «answer»
 use Rattle.jsh_core.specs.declared.world.Body.{Body}
 use Rattle.jsh_core.specs.declared.world.Thread.{Thread}
 use Rattle.jsh_core.specs.declared.world.ThreadEnd.TheVariants as thread_end
 use Rattle.jsh_core.specs.State.{World, numbered}
 use Rattle.jsh_core.specs.Snippets.{main_thread}
-use Rattle.jsh_core.specs.Threads.{can_go_on, ended_by_stop, frames_step, is_owned, next, performed, stepped, stop_thread, stop_threads, stopped_states, stopped_threads, thread_answered, thread_returned, thread_step, turned, Turned}
+use Rattle.jsh_core.specs.Threads.{can_go_on, ended_by_stop, frames_step, is_owned, performed, stepped, stop_thread, stopped_states, stopped_threads, thread_answered, thread_returned, thread_step, turned, Turned}
 use Rattle.jsh_core.specs.Threads.Next.{Sets, Returns}
-use Rattle.jsh_core.proofs.ThreadLaws.{StopsThread, frame_answered, frame_begun, is_stopped_with, ready-at, view-stop_thread, with_stopped}
+use Rattle.jsh_core.proofs.ThreadLaws.{StopsThread, frame_answered, frame_begun, ready-at, view-stop_thread}
 use Rattle.jsh_core.proofs.ThreadLaws.StopsThread.{idle, missing, stops}
 use Rattle.jsh_core.proofs.TurnLemmas.{turned-stuck, turned-suc, turned-zero}
 use Rattle.jsh_core.proofs.WorldLemmas.{numbered-place}

@@ -1,12 +1,11 @@
 -- A turn, by any client: what it leaves as it was, and how far it goes.
-use Rattle.std.proofs.Common.{◌≡◌, ◌≢◌, ℕ, zero, suc, ◌+◌, ◌<◌, ◌≤◌, Bool, true, false, List, [], ◌∷◌, Option, None, Some, length, refl, ap, sym, subst, ◌∙◌, arith}
+use Rattle.std.proofs.Common.{◌≡◌, ◌≢◌, ℕ, zero, suc, ◌<◌, ◌≤◌, true, false, [], length, refl, ap, sym, subst, ◌∙◌, arith}
 use Rattle.jsh_snippet.specs.declared.acts.Act.TheVariants as act
-use Rattle.jsh_snippet.specs.declared.acts.Entry.{Entry}
 use Rattle.jsh_snippet.specs.declared.replies.ReplyBody.TheVariants as body
-use Rattle.jsh_core.specs.State.{State, World, Stepped, numbered}
+use Rattle.jsh_core.specs.State.{State, World, numbered}
 use Rattle.jsh_core.specs.Threads.{can_go_on, turned, Turned}
 use Rattle.jsh_core.specs.Step.{step}
-use Rattle.jsh_core.specs.Causes.{GoesSoFar, world_after}
+use Rattle.jsh_core.specs.Causes.{GoesSoFar}
 use Rattle.jsh_core.proofs.CauseLemmas.{Goes, goes, world_after-zero}
 use Rattle.jsh_core.proofs.DeliveryLaws.{by}
 use Rattle.jsh_core.proofs.ThreadLaws.{LeavesOthers, turned-leaves}

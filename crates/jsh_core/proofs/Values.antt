@@ -1,11 +1,9 @@
 -- A run that was made for a sum gives the sum's value, unless a client stops it.
-use Rattle.std.proofs.Common.{◌≡◌, ◌⊎◌, inl, inr, ℕ, ◌+◌, Bool, true, false, List, [], ◌∷◌, ◌++◌, Option, None, Some, length, refl, ap, sym, subst, ◌∙◌}
+use Rattle.std.proofs.Common.{◌≡◌, ◌⊎◌, inl, inr, ℕ, true, false, List, [], ◌∷◌, Option, Some, refl, ap, sym, ◌∙◌}
 use Rattle.std.specs.Fmt.{signed_decimal}
 use Rattle.std.specs.Option.{option_and_then, option_map_or}
-use Rattle.jsh_snippet.specs.declared.acts.Act.TheVariants as act
 use Rattle.jsh_snippet.specs.declared.acts.Entry.{Entry}
 use Rattle.jsh_snippet.specs.declared.replies.Outcome.TheVariants as outcome
-use Rattle.jsh_snippet.specs.declared.replies.ReplyBody.{ReplyBody}
 use Rattle.jsh_sched.specs.declared.ThreadState.{ThreadState}
 use Rattle.jsh_sched.specs.declared.ThreadState.TheVariants as thread_state
 use Rattle.jsh_sched.specs.ThreadState.{is_alive}
@@ -13,10 +11,9 @@ use Rattle.jsh_sum.specs.Sum.{value_of}
 use Rattle.jsh_core.specs.declared.world.Body.{Body}
 use Rattle.jsh_core.specs.declared.world.Run.{Run}
 use Rattle.jsh_core.specs.declared.world.Thread.{Thread}
-use Rattle.jsh_core.specs.declared.world.ThreadEnd.{ThreadEnd}
 use Rattle.jsh_core.specs.declared.world.ThreadEnd.TheVariants as thread_end
-use Rattle.jsh_core.specs.State.{State, World, numbered}
-use Rattle.jsh_core.specs.Snippets.{main_thread, run_of}
+use Rattle.jsh_core.specs.State.{State, numbered}
+use Rattle.jsh_core.specs.Snippets.{main_thread}
 use Rattle.jsh_core.specs.Threads.{is_thread_alive}
 use Rattle.jsh_core.specs.Runs.{end_of, outcome_of, outcome_with}
 use Rattle.jsh_core.specs.Step.{step}

@@ -1,10 +1,9 @@
 -- What each act comes to, case by case.
-use Rattle.std.proofs.Common.{◌≡◌, ◌≢◌, ◌⊎◌, inl, inr, ℕ, ◌+◌, ◌<◌, ◌≤◌, ◌==◌, Bool, true, false, not, List, [], ◌∷◌, ◌++◌, Option, None, Some, length, refl, ap, sym, ◌∙◌, cond, nat_le, arith}
+use Rattle.std.proofs.Common.{◌≡◌, ◌≢◌, inl, inr, ℕ, ◌+◌, ◌<◌, ◌≤◌, ◌==◌, Bool, true, false, not, List, [], ◌∷◌, ◌++◌, Option, None, Some, length, refl, ap, sym, ◌∙◌, cond, nat_le, arith}
 use Rattle.std.specs.Option.{option_and_then}
 use Rattle.std.specs.List.{list_any}
 use Rattle.std.proofs.lemmas.Bool.{leb-true, leb-false, eqb-true, eqb-false}
 use Rattle.jsh_tree.specs.declared.diagnostic.Diagnostic.{Diagnostic}
-use Rattle.jsh_snippet.specs.declared.acts.Target.{Target}
 use Rattle.jsh_snippet.specs.declared.acts.Target.TheVariants as target
 use Rattle.jsh_snippet.specs.declared.kinds.Fate.{Fate}
 use Rattle.jsh_snippet.specs.declared.kinds.Fate.TheVariants as fate
@@ -20,7 +19,6 @@ use Rattle.jsh_verdict.specs.declared.verdict.Verdict.{Verdict}
 use Rattle.jsh_verdict.specs.declared.verdict.Verdict.TheVariants.{Accepted, Rejected}
 use Rattle.jsh_verdict.specs.Verdict.{verdict}
 use Rattle.jsh_core.specs.declared.generation.Live.{Live}
-use Rattle.jsh_core.specs.declared.generation.Plan.{Plan}
 use Rattle.jsh_core.specs.declared.world.Run.{Run}
 use Rattle.jsh_core.specs.State.{State, Acted, answers, numbered, refuses}
 use Rattle.jsh_core.specs.Generations.{live_named}
@@ -29,7 +27,7 @@ use Rattle.jsh_core.specs.Threads.{alive_count, is_thread_alive}
 use Rattle.jsh_core.specs.Runs.{alive_threads, collect, collect_own, expire, expire_own, given_up, on_own_run, over, run_view, steps_so_far, stop, stop_found, stop_run, view_of}
 use Rattle.jsh_core.specs.Drops.{drop_by_fate, drop_found, drop_id, drop_only, drop_snippet, taken_back}
 use Rattle.jsh_core.specs.Clients.{enter}
-use Rattle.jsh_core.specs.Causes.{IsAliveRun, IsDroppable, IsOwnRun}
+use Rattle.jsh_core.specs.Causes.{IsDroppable, IsOwnRun}
 
 -- a further client, below the limit
 abbrev pub numbered_client : State → Acted
