@@ -2,15 +2,18 @@
 use Rattle.std.specs.Prelude.{◌≡◌, ℕ, ◌+◌, ◌<◌, ◌≤◌, List, [], ◌∷◌, ◌++◌, Option, Some, Bool, true, false, length, slice_get, sum_by, position}
 use Rattle.std.specs.List.{list_any}
 use Rattle.jsh_tree.specs.Text.{most_source}
+use Rattle.jsh_lex.specs.Spelling.{is_identifier}
 use Rattle.jsh_snippet.specs.declared.acts.Act.{Act}
 use Rattle.jsh_snippet.specs.declared.acts.Act.TheVariants as act
 use Rattle.jsh_snippet.specs.declared.acts.Entry.{Entry}
-use Rattle.jsh_snippet.specs.declared.acts.Question.TheVariants as question
+use Rattle.jsh_snippet.specs.declared.acts.Question.{Question}
+use Rattle.jsh_snippet.specs.declared.acts.Target.{Target}
+use Rattle.jsh_snippet.specs.declared.acts.Target.TheVariants as target
 use Rattle.jsh_snippet.specs.declared.replies.Reply.{Reply}
 use Rattle.jsh_core.specs.Limits.{most_bytes, most_entries, most_steps}
 use Rattle.jsh_core.specs.State.{State, opening}
 use Rattle.jsh_core.specs.Step.{step}
-use Rattle.jsh_core.specs.Questions.{question_bytes}
+use Rattle.jsh_core.specs.Questions.{question_text, IsAnswered}
 
 -- the state after these entries
 abbrev pub state_after : State → List Entry → State
@@ -29,11 +32,21 @@ replies_after s (entry ∷ entries) = (step s entry).reply ∷ replies_after (st
 abbrev pub replies_of : List Entry → List Reply
 replies_of history = replies_after opening history
 
--- the bytes of source that an act has, those of a question's text among them
+-- the text of a target: the name by which a snippet is taken back
+abbrev pub target_text : Target → List ℕ
+target_text (target.Id id) = []
+target_text (target.Named name) = name
+
+-- the text that an act hands in
+abbrev pub act_text : Act → List ℕ
+act_text (act.Submit source) = source
+act_text (act.Drop target) = target_text target
+act_text (act.Ask question) = question_text question
+act_text _ = []
+
+-- the bytes of source that an act has, those of a name and of a question's text among them
 abbrev pub act_bytes : Act → ℕ
-act_bytes (act.Submit source) = length source
-act_bytes (act.Ask question) = question_bytes question
-act_bytes _ = 0
+act_bytes what = length (act_text what)
 
 abbrev pub source_bytes : List Entry → ℕ
 source_bytes history = sum_by (λ (entry : Entry). act_bytes entry.act) history
@@ -55,16 +68,24 @@ abbrev pub HasRoomFor : List Entry → List ℕ → Type 0
 HasRoomFor history text =
     HasRoom history × (length text ≤ most_source) × (source_bytes history + length text ≤ most_bytes)
 
+-- a snippet is taken back by its number, or by a name (JLS 3.8)
+abbrev pub IsTarget : Target → Type 0
+IsTarget (target.Id id) = Unit {0}
+IsTarget (target.Named name) = is_identifier name ≡ true
+
 -- the acts that a client may do after a history
 abbrev pub MayDo : List Entry → ℕ → Act → Type 0
 MayDo history client act.Enter = HasRoom history
 MayDo history client (act.Submit source) = HasRoomFor history source
 MayDo history client (act.Turn thread steps) = HasRoom history × (1 ≤ steps) × (steps ≤ most_steps)
 MayDo history client (act.Collect run) = HasRoom history
-MayDo history client (act.Ask (question.Invalid text)) = HasRoomFor history text
+MayDo history client (act.Expire run steps) = HasRoom history
+MayDo history client (act.Stop run) = HasRoom history
+MayDo history client (act.Drop target) = HasRoomFor history (target_text target) × IsTarget target
+MayDo history client (act.Ask question) = HasRoomFor history (question_text question) × IsAnswered question
+MayDo history client act.Reset = HasRoom history
 MayDo history client act.Leave = Unit {0}
 MayDo history client act.Close = client ≡ 0
-MayDo history client _ = ⊥
 
 -- an entry that may come after a history: its client is there, nothing was closed, and the client may do the act
 pub record Allows (history : List Entry) (entry : Entry) : Type 0 where

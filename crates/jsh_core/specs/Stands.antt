@@ -1,5 +1,5 @@
 -- What the one-thread engine keeps stands for its history.
-use Rattle.std.specs.Prelude.{◌≡◌, ℕ, ◌+◌, ◌*◌, ◌<◌, ◌≤◌, min, List, [], ◌∷◌, ◌++◌, ◌⊎◌, Bool, None, length, vec_capacity}
+use Rattle.std.specs.Prelude.{◌≡◌, ℕ, ◌+◌, ◌<◌, ◌≤◌, min, List, [], ◌∷◌, ◌++◌, ◌⊎◌, Bool, None, length, vec_capacity}
 use Rattle.std.specs.List.{count_by}
 use Rattle.jsh_snippet.specs.declared.acts.Act.{Act}
 use Rattle.jsh_snippet.specs.declared.acts.Act.TheVariants as act
@@ -7,8 +7,8 @@ use Rattle.jsh_snippet.specs.declared.acts.Entry.{Entry}
 use Rattle.jsh_snippet.specs.declared.replies.ReplyBody.TheVariants as body
 use Rattle.jsh_core.specs.declared.log.Log.{Log}
 use Rattle.jsh_core.specs.declared.parts.Parts.{Parts}
-use Rattle.jsh_core.specs.Limits.{most_clients, most_entries, most_steps}
-use Rattle.jsh_core.specs.Parts.{state_from, IsSound, StepsAtMost}
+use Rattle.jsh_core.specs.Limits.{most_clients, most_entries}
+use Rattle.jsh_core.specs.Parts.{state_from, IsSound, IsWithin}
 use Rattle.jsh_core.specs.Step.{step}
 use Rattle.jsh_core.specs.History.{IsLegal, state_of, source_bytes, closed_at}
 
@@ -25,7 +25,7 @@ pub record StandsFor (log : Log) (parts : Parts) : Type 0 where
   pub legal : IsLegal log.history.items
   pub state : state_from parts ≡ state_of log.history.items
   pub sound : IsSound parts
-  pub steps : StepsAtMost (most_steps * min (length log.history.items) most_entries) parts.world.threads.items
+  pub within : IsWithin (min (length log.history.items) most_entries) parts
   pub bytes : log.bytes ≡ source_bytes log.history.items
   pub closed : log.closed ≡ closed_at log.history.items
   -- the leaves of the clients that are there, and the close, find room

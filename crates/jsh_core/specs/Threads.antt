@@ -1,71 +1,67 @@
--- What the visible steps of a thread do.
-use Rattle.std.specs.Prelude.{ℕ, ◌+◌, ◌-◌, ◌==◌, zero, suc, List, Option, None, Some, Bool, false, if◌then◌else◌, slice_set, ℤ}
-use Rattle.std.specs.Option.{option_and_then, option_map, option_map_or}
+-- What the visible steps of a thread do, and how threads are stopped.
+use Rattle.std.specs.Prelude.{ℕ, ℤ, ◌+◌, ◌-◌, ◌==◌, zero, suc, List, [], ◌∷◌, ◌++◌, Option, None, Some, Bool, true, false, ◌&&◌, if◌then◌else◌, slice_set}
+use Rattle.std.specs.Option.{option_map_or}
 use Rattle.std.specs.Fmt.{signed_decimal}
-use Rattle.jsh_tree.specs.declared.tree.Tree.{Tree}
+use Rattle.std.specs.List.{count_by}
 use Rattle.jsh_text.specs.declared.value.Value.TheVariants as value
-use Rattle.jsh_snippet.specs.declared.records.Record.{Record}
 use Rattle.jsh_snippet.specs.declared.replies.ReplyBody.TheVariants as body
+use Rattle.jsh_sched.specs.declared.ThreadState.{ThreadState}
 use Rattle.jsh_sched.specs.declared.ThreadState.TheVariants as thread_state
-use Rattle.jsh_sched.specs.ThreadState.{is_ready}
-use Rattle.jsh_sum.specs.declared.reading.Reading.{Reading}
+use Rattle.jsh_sched.specs.ThreadState.{is_ready, is_alive}
 use Rattle.jsh_sum.specs.declared.sums.Sum.{Sum}
 use Rattle.jsh_sum.specs.Sum.{value_of}
-use Rattle.jsh_sum.specs.Reading as reading
 use Rattle.jsh_core.specs.declared.world.Thread.{Thread}
+use Rattle.jsh_core.specs.declared.world.ThreadEnd.TheVariants as thread_end
 use Rattle.jsh_core.specs.declared.world.Frame.{Frame}
-use Rattle.jsh_core.specs.State.{State, World, Stepped, answer, numbered}
+use Rattle.jsh_core.specs.declared.world.Answer.{Answer}
+use Rattle.jsh_core.specs.declared.world.Answer.TheVariants as «answer»
+use Rattle.jsh_core.specs.State.{State, World, Acted, numbered}
+use Rattle.jsh_core.specs.Cells.{set_cell}
 
 -- what a body does next: it asks for its variable to be set, or it returns a text
 pub data Next : Type 0 where
   Sets : ℤ → Next
   Returns : List ℕ → Next
 
--- The body of a snippet, after so many answers: its value goes into the variable, and then the text of it is returned (JLS 15.18).
-abbrev pub next : Sum → ℕ → Next
-next body answers = if answers == 0 then Sets (value_of body) else Returns (signed_decimal (value_of body))
+-- A sum, after these answers: its value goes into the variable, and then the text of it is returned (JLS 15.18).
+abbrev pub next : Sum → List Answer → Next
+next sum [] = Sets (value_of sum)
+next sum (first ∷ rest) = Returns (signed_decimal (value_of sum))
 
--- what a thread with this number and this frame does to the world
-abbrev pub performed : World → ℕ → Thread → Frame → Next → World
-performed w number thread frame (Sets v) = record w {
-  cells = slice_set w.cells (frame.snippet - 1) (Some (value.Int v));
-  threads = slice_set w.threads (number - 1) (record thread {
-    steps = thread.steps + 1;
-    frame = Some (record frame { answers = frame.answers + 1 });
-  });
+-- a frame that is answered once more
+abbrev pub answered : Answer → Frame → Frame
+answered what frame = record frame { answers = frame.answers ++ what ∷ [] }
+
+-- a thread after a step whose answer is empty, for its first frame
+abbrev pub thread_answered : Thread → Frame → List Frame → Thread
+thread_answered thread frame below = record thread { steps = thread.steps + 1; frames = answered «answer».Empty frame ∷ below }
+
+-- a thread after its last step, which returns a text
+abbrev pub thread_returned : Thread → List ℕ → Thread
+thread_returned thread text = record thread { steps = thread.steps + 1; frames = []; end = Some (thread_end.Returned (Some text)) }
+
+-- what a thread does to the world whose first frame does this next, above other frames
+abbrev pub performed : World → ℕ → Thread → Frame → List Frame → Next → World
+performed w number thread frame below (Sets v) = record w {
+  cells = set_cell frame.body.variable (value.Int v) w.cells;
+  threads = slice_set w.threads (number - 1) (thread_answered thread frame below);
 }
-performed w number thread frame (Returns text) = record w {
+performed w number thread frame below (Returns text) = record w {
   states = slice_set w.states (number - 1) thread_state.Ended;
-  threads = slice_set w.threads (number - 1) (record thread { steps = thread.steps + 1; frame = None; returned = Some text });
+  threads = slice_set w.threads (number - 1) (thread_returned thread text);
 }
 
--- the sum that a tree is evaluated as, if it is one
-abbrev pub sum_in : Tree → Option Sum
-sum_in tree = option_map (λ (r : Reading). r.sum) (reading.sum_of tree)
+abbrev pub frames_step : World → ℕ → Thread → List Frame → World
+frames_step w number thread [] = w
+frames_step w number thread (frame ∷ below) = performed w number thread frame below (next frame.body.sum frame.answers)
 
--- the sum of a record: that of its tree
-abbrev pub sum_of_record : Record → Option Sum
-sum_of_record r = option_and_then sum_in r.tree
+abbrev pub thread_step : World → ℕ → Option Thread → World
+thread_step w number None = w
+thread_step w number (Some thread) = frames_step w number thread thread.frames
 
--- the sum of the snippet with this number
-abbrev pub sum_of : List Record → ℕ → Option Sum
-sum_of book id = option_and_then sum_of_record (numbered book id)
-
-abbrev pub body_step : World → ℕ → Thread → Frame → Option Sum → World
-body_step w number thread frame None = w
-body_step w number thread frame (Some body) = performed w number thread frame (next body frame.answers)
-
-abbrev pub frame_step : List Record → World → ℕ → Thread → Option Frame → World
-frame_step book w number thread None = w
-frame_step book w number thread (Some frame) = body_step w number thread frame (sum_of book frame.snippet)
-
-abbrev pub thread_step : List Record → World → ℕ → Option Thread → World
-thread_step book w number None = w
-thread_step book w number (Some thread) = frame_step book w number thread thread.frame
-
--- one visible step of the thread with this number: what its frame does next
-abbrev pub stepped : List Record → World → ℕ → World
-stepped book w number = thread_step book w number (numbered w.threads number)
+-- one visible step of the thread with this number: what its first frame does next
+abbrev pub stepped : World → ℕ → World
+stepped w number = thread_step w number (numbered w.threads number)
 
 -- whether the thread with this number can go on
 abbrev pub can_go_on : World → ℕ → Bool
@@ -77,15 +73,65 @@ pub record Turned : Type 0 where
   pub steps : ℕ
 
 -- at most so many visible steps of a thread, or fewer only where it can't go on
-unfoldable pub turned : List Record → ℕ → ℕ → World → Turned
-turned book number zero w = record { world = w; steps = 0 }
-turned book number (suc most) w = if can_go_on w number then one_more (turned book number most (stepped book w number)) else record { world = w; steps = 0 }
+unfoldable pub turned : ℕ → ℕ → World → Turned
+turned number zero w = record { world = w; steps = 0 }
+turned number (suc most) w =
+    if can_go_on w number then one_more (turned number most (stepped w number)) else record { world = w; steps = 0 }
   where
     one_more : Turned → Turned
     one_more t = record t { steps = t.steps + 1 }
 
 -- The thread goes on, and it is said how far.
-abbrev pub turn : State → ℕ → ℕ → Stepped
+abbrev pub turn : State → ℕ → ℕ → Acted
 turn s number most =
-    let t = turned s.book number most s.world in
-    record { state = record s { world = t.world }; reply = answer (body.Turned t.steps) }
+    let t = turned number most s.world in
+    record { state = record s { world = t.world }; body = body.Turned t.steps }
+
+-- how many threads are alive
+abbrev pub alive_count : World → ℕ
+alive_count w = count_by is_alive w.states
+
+-- whether the thread with this number is alive
+abbrev pub is_thread_alive : World → ℕ → Bool
+is_thread_alive w number = option_map_or is_alive (numbered w.states number) false
+
+-- a thread that is stopped has left all its bodies
+abbrev pub ended_by_stop : Thread → Thread
+ended_by_stop thread = record thread { frames = []; end = Some thread_end.Stopped }
+
+abbrev pub stop_found : World → ℕ → Option Thread → World
+stop_found w number None = w
+stop_found w number (Some thread) = record w {
+  states = slice_set w.states (number - 1) thread_state.Stopped;
+  threads = slice_set w.threads (number - 1) (ended_by_stop thread);
+}
+
+-- the thread with this number is stopped, if it is alive
+abbrev pub stop_thread : World → ℕ → World
+stop_thread w number = if is_thread_alive w number then stop_found w number (numbered w.threads number) else w
+
+-- a thread is this client's; every thread is anyone's
+abbrev pub is_owned : Option ℕ → Thread → Bool
+is_owned None thread = true
+is_owned (Some client) thread = thread.owner == client
+
+-- the states of all threads after the alive ones of an owner are stopped
+abbrev pub stopped_states : Option ℕ → List ThreadState → List Thread → List ThreadState
+stopped_states owner (state ∷ states) (thread ∷ threads) =
+    (if is_alive state && is_owned owner thread then thread_state.Stopped else state) ∷ stopped_states owner states threads
+stopped_states owner states [] = states
+stopped_states owner [] threads = []
+
+-- the threads after the alive ones of an owner are stopped
+abbrev pub stopped_threads : Option ℕ → List ThreadState → List Thread → List Thread
+stopped_threads owner (state ∷ states) (thread ∷ threads) =
+    (if is_alive state && is_owned owner thread then ended_by_stop thread else thread) ∷ stopped_threads owner states threads
+stopped_threads owner states [] = []
+stopped_threads owner [] threads = threads
+
+-- every alive thread of an owner is stopped
+abbrev pub stop_threads : Option ℕ → World → World
+stop_threads owner w = record w {
+  states = stopped_states owner w.states w.threads;
+  threads = stopped_threads owner w.states w.threads;
+}

@@ -4,5 +4,4 @@ use Rattle.jsh_core.specs.Runs.{dropped}
 use Rattle.jsh_core.proofs.clients.drop_runs.Given as goal
 
 abbrev pub invariant-loop-run : goal.invariant-loop-run
-invariant-loop-run l =
-    map (dropped l.client) l.initial.runs ≡ take l.run-index l.runs ++ map (dropped l.client) (drop l.run-index l.runs)
+invariant-loop-run l = map dropped l.initial.runs ≡ take l.run-index l.runs ++ map dropped (drop l.run-index l.runs)

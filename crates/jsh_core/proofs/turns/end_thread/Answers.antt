@@ -6,15 +6,15 @@ use Rattle.jsh_core.proofs.turns.end_thread.Goals as goal
 pub overflow_sub-world : goal.overflow_sub-world
 overflow_sub-world c =
     let ends : Ends c.args.world.now.states.items c.args.number = Ends-ready _ _ c.requires.ready in
-    omega (arith, ends.alive, c.requires.counted)
+    omega (arith, ends.alive, c.requires.world.alive)
+
+pub returns-clause-after : goal.returns-clause-after
+returns-clause-after c = λ t frame below there. ?
 
 pub returns-clause-world : goal.returns-clause-world
-returns-clause-world c = λ records h.
+returns-clause-world c =
     let ends : Ends c.args.world.now.states.items c.args.number = Ends-ready _ _ c.requires.ready in
     record {
-      cells = h.cells;
-      states = simp length-set h.states;
-      threads = simp length-set h.threads;
-      runs = h.runs;
-      alive = omega (arith, ends.fewer, ends.alive, h.alive);
+      states = simp length-set c.requires.world.states;
+      alive = omega (arith, ends.fewer, ends.alive, c.requires.world.alive);
     }
