@@ -1,5 +1,6 @@
-pub mod Budget
+pub mod Input
 pub mod Statuses
+pub mod Served
 pub mod Progress
 pub mod Transcript
 pub mod Limited
