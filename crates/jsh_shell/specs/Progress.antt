@@ -113,8 +113,8 @@ TakesNext p (command ∷ commands) what after reply q = (what ≡ command_act co
 
 -- The thread whose turn it is in the evaluation of a run, where the run isn't over. The main thread goes first unless it had the
 -- client's last turn.
-abbrev pub next_thread : State → Progress → RunView → Option ℕ
-next_thread s p run = if run.over then None else picked s.world.states p.cursor (Some run.main) (not (p.last_turn == run.main))
+abbrev pub next_thread : State → ℕ → ℕ → RunView → Option ℕ
+next_thread s last_turn cursor run = if run.over then None else picked s.world.states cursor (Some run.main) (not (last_turn == run.main))
 
 -- the steps that a turn is given, where so many of the budget are used
 abbrev pub turn_steps : ℕ → ℕ → ℕ
@@ -145,7 +145,7 @@ pub record IsCutTurn (budget used main thread steps : ℕ) (after : State) (p q 
 pub record IsTurn (budget run used thread steps : ℕ) (s after : State) (reply : ReplyBody) (p q : Progress) : Type 0 where
   pub view : RunView
   pub found : run_view s run ≡ Some view
-  pub picked : next_thread s p view ≡ Some thread
+  pub picked : next_thread s p.last_turn p.cursor view ≡ Some thread
   pub some : 0 < steps
   pub counted : reply ≡ body.Turned steps
   pub how : IsWholeTurn budget run used view.main thread steps after p q ⊎ IsCutTurn budget used view.main thread steps after p q

@@ -20,7 +20,7 @@ use Rattle.jsh_shell.specs.declared.halts.Halt.TheVariants as halt
 use Rattle.jsh_shell.specs.declared.session.Session.{Session}
 use Rattle.jsh_shell.specs.declared.driving.Driven.{Driven}
 use Rattle.jsh_shell.specs.declared.driving.Driven.TheVariants as driven
-use Rattle.jsh_shell.specs.Progress.{Progress, Follows, is_running}
+use Rattle.jsh_shell.specs.Progress.{Phase, Progress, Follows, is_limit, is_running}
 use Rattle.jsh_shell.specs.Progress.Phase.{Between, Evaluating, CutShort}
 use Rattle.jsh_shell.specs.Transcript.{transcript_after}
 use Rattle.jsh_shell.specs.Limited.{IsLimited}
@@ -33,25 +33,15 @@ pub record IsOpen (client : ℕ) (history : List Entry) : Type 0 where
   pub root : slice_get (state_of history).clients 0 ≡ Some true
   pub «open» : list_any (λ (e : Entry). is_close e.act) history ≡ false
 
--- the session knows the client's last turns
-pub record KnowsTurns (session : Session) (p : Progress) : Type 0 where
-  pub last_turn : p.last_turn ≡ session.last_turn
-  pub cursor : p.cursor ≡ session.cursor
-
--- the client stands between two commands, at no limit, and these are left
-pub record IsBetween (session : Session) (commands : List Command) (p : Progress) : Type 0 where
-  pub phase : p.phase ≡ Between
+-- the client stands in this phase, at no limit, and these commands are left
+pub record Stands (phase : Phase) (session : Session) (commands : List Command) (p : Progress) : Type 0 where
+  pub phase : p.phase ≡ phase
   pub left : p.commands ≡ commands
   pub limited : p.limited ≡ false
   pub has_left : p.has_left ≡ false
-  pub turns : KnowsTurns session p
-
--- the client stands in the evaluation of a run whose turns have had so many steps
-pub record IsEvaluating (session : Session) (run used : ℕ) (commands : List Command) (p : Progress) : Type 0 where
-  pub phase : p.phase ≡ Evaluating run used
-  pub left : p.commands ≡ commands
-  pub has_left : p.has_left ≡ false
-  pub turns : KnowsTurns session p
+  -- the session knows the client's last turns
+  pub last_turn : p.last_turn ≡ session.last_turn
+  pub cursor : p.cursor ≡ session.cursor
 
 -- these entries are the client's own
 abbrev pub AreOwn : ℕ → List Entry → Type 0
@@ -105,61 +95,47 @@ pub record BreaksOff (before after : List Entry) (entry : Entry) (held_before he
   pub grows : after ≡ before ++ entry ∷ []
   pub part : WritesPart held_before held_after (shown entry (step (state_of before) entry).reply)
 
--- an act was not done for want of memory, or it broke off
+-- an act was refused at a limit, and that was written
+abbrev pub IsRefused : List Entry → List Entry → Entry → Option (List ℕ) → Option (List ℕ) → Type 0
+IsRefused before after entry held_before held_after =
+    (answer : Reply) × Shows before after entry answer held_before held_after × (is_limit answer.body ≡ true)
+
+-- an act was not done for want of memory, or it broke off, or it was refused at a limit
 abbrev pub Fails : Halt → List Entry → List Entry → Entry → Option (List ℕ) → Option (List ℕ) → Type 0
 Fails why before after entry held_before held_after =
     ((after ≡ before) × (held_after ≡ held_before) × (why ≡ halt.NoMemory))
     ⊎ (BreaksOff before after entry held_before held_after × (why ≢ halt.Limit))
+    ⊎ (IsRefused before after entry held_before held_after × (why ≡ halt.Limit))
 
--- these commands were served, whatever comes behind them
-pub record Serves (budget client : ℕ) (before after : Session) (held_before held_after : Option (List ℕ)) (served : List Command) : Type 0 where
-  pub each : (p : Progress) (more : List Command) → IsBetween before (served ++ more) p →
-      (q : Progress) × Advances budget client before.core after.core held_before held_after p q × IsBetween after more q
+-- These commands were served, from one phase to another, whatever comes behind them.
+pub record Serves (budget client : ℕ) (from to : Phase) (before after : Session) (held_before held_after : Option (List ℕ)) (served : List Command) : Type 0 where
+  pub each : (p : Progress) (more : List Command) → Stands from before (served ++ more) p →
+      (q : Progress) × Advances budget client before.core after.core held_before held_after p q × Stands to after more q
 
--- the serving of these commands halted
-pub record ServesPart (why : Halt) (budget client : ℕ) (before after : Session) (held_before held_after : Option (List ℕ)) (served : List Command) : Type 0 where
-  pub each : (p : Progress) (more : List Command) → IsBetween before (served ++ more) p →
+-- The serving of these commands halted.
+pub record ServesPart (why : Halt) (budget client : ℕ) (from : Phase) (before after : Session) (held_before held_after : Option (List ℕ)) (served : List Command) : Type 0 where
+  pub each : (p : Progress) (more : List Command) → Stands from before (served ++ more) p →
       (q : Progress) × Halts why budget client before.core after.core held_before held_after p q
 
--- behind a source that was handed in
-abbrev pub IsHandedIn : Session → Option ℕ → List Command → Progress → Type 0
-IsHandedIn session None more q = IsBetween session more q
-IsHandedIn session (Some run) more q = IsEvaluating session run 0 more q
-
--- a source was handed in, and may have got a run
-pub record HandsIn (budget client : ℕ) (before after : Session) (held_before held_after : Option (List ℕ)) (source : List ℕ) (run : Option ℕ) : Type 0 where
-  pub each : (p : Progress) (more : List Command) → IsBetween before (Eval source ∷ more) p →
-      (q : Progress) × Advances budget client before.core after.core held_before held_after p q × IsHandedIn after run more q
-
--- the turns of a run were taken, from so many steps to so many
-pub record Drives (budget client : ℕ) (before after : Session) (run used_before used_after : ℕ) : Type 0 where
-  pub each : (p : Progress) (more : List Command) (held : Option (List ℕ)) → IsEvaluating before run used_before more p →
-      (q : Progress) × Advances budget client before.core after.core held held p q × IsEvaluating after run used_after more q
+-- turns of a run were taken, behind some steps and up to others, and nothing was written
+abbrev pub Drives : ℕ → ℕ → ℕ → ℕ → ℕ → Session → Session → Type 0
+Drives budget client run used_before used_after before after =
+    (held : Option (List ℕ)) → Serves budget client (Evaluating run used_before) (Evaluating run used_after) before after held held []
 
 -- the taking of turns halted
-pub record DrivesPart (why : Halt) (budget client : ℕ) (before after : Session) (run used_before : ℕ) : Type 0 where
-  pub each : (p : Progress) (more : List Command) (held : Option (List ℕ)) → IsEvaluating before run used_before more p →
-      (q : Progress) × Halts why budget client before.core after.core held held p q
+abbrev pub DrivesPart : Halt → ℕ → ℕ → ℕ → ℕ → Session → Session → Type 0
+DrivesPart why budget client run used before after =
+    (held : Option (List ℕ)) → ServesPart why budget client (Evaluating run used) before after held held []
 
 -- a client that asks for the run isn't answered that it goes on
 abbrev pub GoesOnNoMore : List Entry → ℕ → ℕ → Type 0
 GoesOnNoMore history client run = is_running (step (state_of history) (record { client = client; act = act.Collect run })).reply.body ≡ false
 
--- all turns of a run were taken: the run goes on no more, below the budget, or the budget is used
-abbrev pub DrivesTo : Driven → ℕ → ℕ → Session → Session → ℕ → Type 0
-DrivesTo driven.Still budget client before after run =
-    (used : ℕ) × (used < budget) × GoesOnNoMore after.core client run × Drives budget client before after run 0 used
-DrivesTo driven.Spent budget client before after run = Drives budget client before after run 0 budget
-
--- a run was evaluated to its end
-pub record Finishes (budget client : ℕ) (before after : Session) (held_before held_after : Option (List ℕ)) (run : ℕ) : Type 0 where
-  pub each : (p : Progress) (more : List Command) → IsEvaluating before run 0 more p →
-      (q : Progress) × Advances budget client before.core after.core held_before held_after p q × IsBetween after more q
-
--- the evaluation of a run halted
-pub record FinishesPart (why : Halt) (budget client : ℕ) (before after : Session) (held_before held_after : Option (List ℕ)) (run : ℕ) : Type 0 where
-  pub each : (p : Progress) (more : List Command) → IsEvaluating before run 0 more p →
-      (q : Progress) × Halts why budget client before.core after.core held_before held_after p q
+-- All turns of a run were taken: it goes on no more, below the budget, or the budget is used.
+abbrev pub DrivesTo : Driven → ℕ → ℕ → ℕ → Session → Session → Type 0
+DrivesTo driven.Still budget client run before after =
+    (used : ℕ) × (used < budget) × GoesOnNoMore after.core client run × Drives budget client run 0 used before after
+DrivesTo driven.Spent budget client run before after = Drives budget client run 0 budget before after
 
 -- an act that a slash line may stand for
 abbrev pub IsSlash : Act → Type 0
@@ -205,13 +181,13 @@ pub data TakesLeave (status after : ℕ) (text : List ℕ) (held_before held_aft
 abbrev pub Ends : ℕ → ℕ → ℕ → Session → Session → Option (List ℕ) → Option (List ℕ) → List ℕ → Bool → ℕ → ℕ → ℕ → ℕ → Type 0
 Ends budget client status before after held_before held_after read ended reads_before reads_after writes_before writes_after =
     ((status ≡ all_served) × (exits read ended ≡ true) × (length read < most_input) × (reads_after ≡ reads_before) × (writes_after ≡ writes_before)
-    × Serves budget client before after held_before held_after (before_exit read ended))
+    × Serves budget client Between Between before after held_before held_after (before_exit read ended))
     ⊎ ((status ≡ read_failed) × (exits read ended ≡ false) × (length read < most_input) × Rose reads_before reads_after × (writes_after ≡ writes_before)
-    × Serves budget client before after held_before held_after (before_exit read ended))
+    × Serves budget client Between Between before after held_before held_after (before_exit read ended))
     ⊎ ((status ≡ limit_met) × (ended ≡ false) × (length read ≡ most_input) × (reads_after ≡ reads_before) × (writes_after ≡ writes_before)
-    × Serves budget client before after held_before held_after (before_exit read ended))
+    × Serves budget client Between Between before after held_before held_after (before_exit read ended))
     ⊎ ((why : Halt) × (status ≡ status_of why) × (reads_after ≡ reads_before) × HasCause why writes_before writes_after
-    × ServesPart why budget client before after held_before held_after (before_exit read ended))
+    × ServesPart why budget client Between before after held_before held_after (before_exit read ended))
 
 -- What a client had read, and what of it was served.
 pub record IsServedBy (budget client status : ℕ) (before after : Session) (left_before left_after held_before held_after : Option (List ℕ)) (reads_before reads_after writes_before writes_after : ℕ) : Type 0 where
