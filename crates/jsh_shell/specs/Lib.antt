@@ -5,6 +5,7 @@ pub mod Progress
 pub mod Transcript
 pub mod Limited
 pub mod Serving
+pub mod Driving
 pub mod Cutting
 pub mod Journal
 pub mod Upcoming

@@ -89,15 +89,18 @@ abbrev pub phase_after : Option ℕ → Phase
 phase_after None = Between
 phase_after (Some run) = Evaluating run 0
 
--- a slash line is one entry, and so is a source that gets no run
-abbrev pub phase_behind : Command → ReplyBody → Phase
-phase_behind (Eval source) reply = phase_after (run_of reply)
-phase_behind _ reply = Between
+abbrev pub is_source : Command → Bool
+is_source (Eval source) = true
+is_source _ = false
+
+-- the run that the reply to a command has to be evaluated: a slash line is one entry
+abbrev pub run_behind : Bool → ReplyBody → Option ℕ
+run_behind source reply = if source then run_of reply else None
 
 -- the next command has its entry
 abbrev pub behind_command : Progress → Command → List Command → State → ReplyBody → Progress
 behind_command p command commands after reply = record p {
-  phase = phase_behind command reply;
+  phase = phase_after (run_behind (is_source command) reply);
   commands = commands;
   was_idle = is_idle after;
   was_reset = false;
