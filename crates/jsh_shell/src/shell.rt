@@ -273,4 +273,6 @@ mod cutting_tests;
 #[cfg(test)]
 mod embedding_test;
 #[cfg(test)]
+mod session_tests;
+#[cfg(test)]
 mod tests;
