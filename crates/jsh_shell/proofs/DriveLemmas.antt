@@ -1,6 +1,7 @@
 -- The turns of an evaluation, and its end.
-use Rattle.std.proofs.Common.{◌≡◌, ◌≢◌, ℕ, zero, suc, ◌+◌, ◌-◌, ◌<◌, ◌≤◌, ◌==◌, Bool, true, false, List, [], ◌∷◌, ◌++◌, Option, None, Some, length, refl, ap, sym, subst, ◌∙◌, arith, inl, inr, ◌⊎◌}
-use Rattle.std.specs.Prelude.{if◌then◌else◌, min, not}
+use Rattle.std.proofs.Common.{◌≡◌, ◌≢◌, ℕ, ◌+◌, ◌<◌, ◌≤◌, ◌==◌, Bool, true, false, List, [], ◌∷◌, ◌++◌, Option, None, Some, length, refl, ap, sym, subst, ◌∙◌, arith, inl, inr, ◌⊎◌}
+use Rattle.std.specs.Prelude.{if◌then◌else◌, not}
+use Rattle.std.proofs.lemmas.Bool.{ne_eqb}
 use Rattle.jsh_snippet.specs.declared.acts.Act.{Act}
 use Rattle.jsh_snippet.specs.declared.acts.Act.TheVariants as act
 use Rattle.jsh_snippet.specs.declared.acts.Entry.{Entry}
@@ -98,8 +99,7 @@ kept-some : (client thread asked done : ℕ) (reply : Reply) → reply.body ≡ 
 kept-some client thread asked done reply is some = ap (λ (n : ℕ). by client (act.Turn thread n)) (ap (done_steps asked) is ∙ nonzero done some)
   where
     nonzero : (n : ℕ) → 0 < n → (if n == 0 then asked else n) ≡ n
-    nonzero zero some = absurd (omega (arith, some))
-    nonzero (suc n) some = refl
+    nonzero n some = let other : n ≢ 0 = omega arith in rw (ne_eqb n 0 other) refl
 
 -- the turn as it is kept does the same
 record DoesSome (s : State) (client thread asked : ℕ) : Type 0 where
