@@ -61,14 +61,15 @@ fn does(act: &Act, did: Did) -> bool {
 
 /// A session of one client over streams that don't fail.
 struct Row {
-    words: &'static [&'static str],
+    /// With a space between two of them.
+    words: &'static str,
     input: &'static str,
     written: &'static str,
     entries: &'static [Did],
 }
 
 const STOPPED: Row = Row {
-    words: &["--budget", "1"],
+    words: "--budget 1",
     input: "1 + 2\n/reset\n2 + 2\n/exit\n",
     written: "|  stopped after 1 steps\n|  Resetting state.\n|  stopped after 1 steps\n",
     entries: &[
@@ -84,7 +85,7 @@ const STOPPED: Row = Row {
 };
 
 const JUST_ENOUGH: Row = Row {
-    words: &["--budget=2"],
+    words: "--budget=2",
     input: "1 + 2",
     written: "$1 ==> 3\n",
     entries: &[
@@ -96,7 +97,7 @@ const JUST_ENOUGH: Row = Row {
 };
 
 const MORE_THAN_ENOUGH: Row = Row {
-    words: &["--budget", "3"],
+    words: "--budget 3",
     input: "1 + 2",
     written: "$1 ==> 3\n",
     entries: &[
@@ -108,7 +109,7 @@ const MORE_THAN_ENOUGH: Row = Row {
 };
 
 const SLASH_LINES: Row = Row {
-    words: &[],
+    words: "",
     input: "1 + 2\n/list\n/vars\n/drop $1\n/drop 1\n/drop 9\n/drop z\n/list -all\n/vars\n/stop 9\n/foo\n/help\n",
     written: "$1 ==> 3\n   1 : 1 + 2\n|    int $1 = 3\n|  dropped variable $1\n|  snippet 1 is DROPPED\n|  no snippet 9\n|  0 live snippets are named z\n   1 : 1 + 2\n|  no run 9\n|  Invalid command: /foo\n|  /list /vars /methods /types /imports /threads /complete /drop /stop /reset /exit\n",
     entries: &[
@@ -144,12 +145,17 @@ fn has_entries(journal: &[Entry], wanted: &[Did]) -> bool {
     left.next().is_none()
 }
 
-fn words_of(alloc: Global, words: &[&str]) -> Result<Vec<String>, AllocError> {
-    let mut list = Vec::new(alloc);
-    for word in words {
-        list.push(String::from_str(alloc, word)?)?;
+fn words_of(alloc: Global, line: &str) -> Result<Vec<String>, AllocError> {
+    let mut given = Vec::new(alloc);
+    if line.is_empty() {
+        return Ok(given);
     }
-    Ok(list)
+    for word in line.split(' ') {
+        let word = String::from_str(alloc, word)?;
+        given.reserve(1)?;
+        given.push_reserved(word);
+    }
+    Ok(given)
 }
 
 /// A desk over this input.
@@ -193,33 +199,43 @@ fn serves_slash_lines(rt: HostRuntime) -> Result<(), Fail> {
 }
 
 /// Words, and the status that they lead to over an empty input.
-const WORDS: [(&[&str], u8); 14] = [
-    (&[], 0),
-    (&["--"], 0),
-    (&["--workers", "0"], 0),
-    (&["--budget=1000000000"], 0),
-    (&["--budget", "0"], 2),
-    (&["--budget", "1000000001"], 2),
-    (&["--budget", "1", "--budget", "1"], 2),
-    (&["-h"], 2),
+const WORDS: [(&'static str, u8); 14] = [
+    ("", 0),
+    ("--", 0),
+    ("--workers 0", 0),
+    ("--budget=1000000000", 0),
+    ("--budget 0", 2),
+    ("--budget 1000000001", 2),
+    ("--budget 1 --budget 1", 2),
+    ("-h", 2),
     // parts that aren't built yet
-    (&["--workers", "1"], 2),
-    (&["--journal", "j"], 2),
-    (&["--startup", "s"], 2),
-    (&["a"], 2),
-    (&["--demo", "5"], 2),
-    (&["--replay", "f"], 2),
+    ("--workers 1", 2),
+    ("--journal j", 2),
+    ("--startup s", 2),
+    ("a", 2),
+    ("--demo 5", 2),
+    ("--replay f", 2),
 ];
+
+fn check_words<R: Threads + Wait + Sync + Abort>(
+    rt: &R,
+    alloc: Global,
+    line: &str,
+    status: u8,
+) -> Result<(), Fail> {
+    let words = words_of(alloc, line)?;
+    let mut desk = desk(alloc, b"")?;
+    let report = run(rt, alloc, words.as_slice(), &mut desk, &OpenGate);
+    assert_eq!(rt; report.status, status, "{}", line);
+    let written = if status == 2 { USAGE } else { "" };
+    assert!(rt; has_written(&report, written.as_bytes()), "{}", line);
+    Ok(())
+}
 
 #[test]
 fn reads_its_words(rt: HostRuntime) -> Result<(), Fail> {
-    for (words, status) in WORDS {
-        let list = words_of(rt.alloc(), words)?;
-        let mut desk = desk(rt.alloc(), b"")?;
-        let report = run(&rt, rt.alloc(), list.as_slice(), &mut desk, &OpenGate);
-        assert_eq!(rt; report.status, status);
-        let written = if status == 2 { USAGE } else { "" };
-        assert!(rt; has_written(&report, written.as_bytes()));
+    for (line, status) in WORDS {
+        check_words(&rt, rt.alloc(), line, status)?;
     }
     Ok(())
 }
