@@ -47,14 +47,14 @@ next-ready s last_turn cursor view thread is = from view.over is
     from false e = picked-ready s cursor (Some view.main) (not (last_turn == view.main)) thread e
 
 -- a run is answered to go on only where it is someone's turn
-running-because : (s : State) (client run : ℕ) → is_running (step s (by client (act.Collect run))).reply.body ≡ true → GoesOnBecause s run
+running-because : (s : State) (client run : ℕ) → is_running (step s (by client (act.Collect run))).reply.body ≡ true → GoesOnBecause s client run
 running-because s client run is = from (step s (by client (act.Collect run))).reply.body refl is
   where
-    from : (answered : ReplyBody) → (step s (by client (act.Collect run))).reply.body ≡ answered → is_running answered ≡ true → GoesOnBecause s run
+    from : (answered : ReplyBody) → (step s (by client (act.Collect run))).reply.body ≡ answered → is_running answered ≡ true → GoesOnBecause s client run
     from (body.Collected («collected».Running steps)) e is = collect-running s client run steps e
     from _ e is = cc
 
-no-more : (s : State) (client run : ℕ) → (GoesOnBecause s run → ⊥) → is_running (step s (by client (act.Collect run))).reply.body ≡ false
+no-more : (s : State) (client run : ℕ) → (GoesOnBecause s client run → ⊥) → is_running (step s (by client (act.Collect run))).reply.body ≡ false
 no-more s client run never = from (is_running (step s (by client (act.Collect run))).reply.body) refl
   where
     from : (is : Bool) → is_running (step s (by client (act.Collect run))).reply.body ≡ is → is_running (step s (by client (act.Collect run))).reply.body ≡ false
@@ -67,7 +67,7 @@ no-more-gone history client run gone = no-more (state_of history) client run (λ
 pub no-more-over : (history : List Entry) (client run : ℕ) (view : RunView) → run_view (state_of history) run ≡ Some view → view.over ≡ true → GoesOnNoMore history client run
 no-more-over history client run view found over = no-more (state_of history) client run (λ because. not_both because)
   where
-    not_both : GoesOnBecause (state_of history) run → ⊥
+    not_both : GoesOnBecause (state_of history) client run → ⊥
     not_both because =
         let views : Some view ≡ Some because.view = sym found ∙ because.found in
         let same : view ≡ because.view = cc in
@@ -77,8 +77,8 @@ no-more-over history client run view found over = no-more (state_of history) cli
 pub no-more-idle : (history : List Entry) (client run cursor : ℕ) (main : Option ℕ) (first : Bool) → picked (state_of history).world.states cursor main first ≡ None → GoesOnNoMore history client run
 no-more-idle history client run cursor main first none = no-more (state_of history) client run (λ because. not_both because)
   where
-    not_both : GoesOnBecause (state_of history) run → ⊥
-    not_both because = let both : true ≡ false = sym because.ready ∙ picked-none (state_of history).world.states cursor main first none in cc
+    not_both : GoesOnBecause (state_of history) client run → ⊥
+    not_both because = let both : true ≡ false = sym because.ready ∙ (picked-none (state_of history).world.states cursor main first).0 none in cc
 
 -- ---- one turn
 

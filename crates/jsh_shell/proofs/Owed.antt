@@ -1,5 +1,6 @@
 -- Laws of jsh_core that the shell cites and that don't stand yet.
 use Rattle.std.proofs.Common.{◌≡◌, ℕ, ◌<◌, ◌≤◌, ◌==◌, ◌&&◌, Bool, true, false, List, Option, Some, None}
+use Rattle.std.specs.Prelude.{◌↔◌}
 use Rattle.std.specs.List.{list_any, slice_get}
 use Rattle.jsh_snippet.specs.declared.acts.Act.{Act}
 use Rattle.jsh_snippet.specs.declared.acts.Act.TheVariants as act
@@ -37,8 +38,8 @@ pub picked-ready : (s : State) (cursor : ℕ) (main : Option ℕ) (first : Bool)
     can_go_on s.world thread ≡ true
 picked-ready s cursor main first thread is = ?
 
-pub picked-none : (states : List ThreadState) (cursor : ℕ) (main : Option ℕ) (first : Bool) → picked states cursor main first ≡ None → list_any is_ready states ≡ false
-picked-none states cursor main first is = ?
+pub picked-none : (states : List ThreadState) (cursor : ℕ) (main : Option ℕ) (first : Bool) → (picked states cursor main first ≡ None) ↔ (list_any is_ready states ≡ false)
+picked-none states cursor main first = ?
 
 pub record GoesSome (s : State) (client thread steps : ℕ) : Type 0 where
   pub done : ℕ
@@ -50,11 +51,11 @@ pub record GoesSome (s : State) (client thread steps : ℕ) : Type 0 where
 pub turn-some : (s : State) (client thread steps : ℕ) → can_go_on s.world thread ≡ true → 0 < steps → GoesSome s client thread steps
 turn-some s client thread steps ready some = ?
 
-pub record GoesOnBecause (s : State) (run : ℕ) : Type 0 where
+pub record GoesOnBecause (s : State) (client run : ℕ) : Type 0 where
   pub view : RunView
   pub found : run_view s run ≡ Some view
   pub over : view.over ≡ false
   pub ready : list_any is_ready s.world.states ≡ true
 
-pub collect-running : (s : State) (client run steps : ℕ) → (step s (by client (act.Collect run))).reply.body ≡ body.Collected («collected».Running steps) → GoesOnBecause s run
+pub collect-running : (s : State) (client run steps : ℕ) → (step s (by client (act.Collect run))).reply.body ≡ body.Collected («collected».Running steps) → GoesOnBecause s client run
 collect-running s client run steps is = ?

@@ -34,8 +34,8 @@ pub record IsOpen (client : ℕ) (history : List Entry) : Type 0 where
   pub «open» : list_any (λ (e : Entry). is_close e.act) history ≡ false
 
 -- the client stands in this phase, at no limit, and these commands are left
-pub record Stands (phase : Phase) (session : Session) (commands : List Command) (p : Progress) : Type 0 where
-  pub phase : p.phase ≡ phase
+pub record Stands (at : Phase) (session : Session) (commands : List Command) (p : Progress) : Type 0 where
+  pub phase : p.phase ≡ at
   pub left : p.commands ≡ commands
   pub limited : p.limited ≡ false
   pub has_left : p.has_left ≡ false

@@ -3,6 +3,7 @@ use Rattle.std.proofs.Common.{◌≡◌, ◌≤◌, ◌<◌, ◌+◌, ℕ, arith
 use Rattle.jsh_snippet.specs.declared.acts.Entry.{Entry}
 use Rattle.jsh_core.specs.Limits.{most_entries, most_steps}
 use Rattle.jsh_shell.specs.declared.session.Session.{Session}
+use Rattle.jsh_shell.specs.Driving.{done_of}
 use Rattle.jsh_shell.specs.Serving.{Drives, IsOpen}
 use Rattle.jsh_shell.proofs.DriveLemmas.{drives-part, drives-turn, drives-within, open-turn-kept, open-turn-part}
 use Rattle.jsh_shell.proofs.ServeLemmas.{part-when-full}
@@ -27,7 +28,7 @@ apply-requires g c =
 pub returns-in-Ok-clause-ok : goal.returns-in-Ok-clause-ok
 returns-in-Ok-clause-ok g c =
     subst (λ (n : ℕ). Drives c.args.budget c.args.client c.args.run c.args.used (c.args.used + n) c.args.session.now c.note_turn.new.session) (sym c.steps_done.ensures)
-    (subst (λ (after : Session). Drives c.args.budget c.args.client c.args.run c.args.used _ c.args.session.now after) (sym c.note_turn.ensures)
+    (subst (λ (after : Session). Drives c.args.budget c.args.client c.args.run c.args.used (c.args.used + done_of c.in-Ok.reply.body) c.args.session.now after) (sym c.note_turn.ensures)
     (drives-turn _ _ _ _ c.turn_steps.result _ _ c.args.turn c.in-Ok.reply c.requires.turn c.requires.below c.turn_steps.ensures c.in-Ok.ensures.reply c.in-Ok.ensures.history))
 
 pub returns-in-Ok-clause-more : goal.returns-in-Ok-clause-more
