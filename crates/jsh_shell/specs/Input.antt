@@ -1,8 +1,5 @@
--- The steps that an evaluation may take.
+-- What a client reads.
 use Rattle.std.specs.Prelude.{ℕ}
-
-abbrev pub default_budget : ℕ
-default_budget = 10000000
 
 -- the bytes that a client may read
 abbrev pub most_input : ℕ
