@@ -1,5 +1,5 @@
 -- What an act comes to, put together from the clauses of its call.
-use Rattle.std.proofs.Common.{◌≡◌, ℕ, zero, suc, ◌+◌, ◌≤◌, ◌<◌, List, true, Result, Ok, Err, IfOk, IfErr, refl, ap, ◌∙◌, arith}
+use Rattle.std.proofs.Common.{◌≡◌, ℕ, zero, suc, ◌+◌, ◌≤◌, ◌<◌, List, true, Result, Ok, Err, IfOk, IfErr, OnErr, refl, ap, ◌∙◌, arith}
 use Rattle.std.proofs.lemmas.Option.{slice_get_within}
 use Rattle.jsh_text.specs.declared.memory.NoMemory.{NoMemory}
 use Rattle.jsh_snippet.specs.declared.acts.Act.{Act}
@@ -46,6 +46,21 @@ done-whole before after client asked what given result is once step sound within
         IfOk (at_once given) (λ answered. IsDone before after client what answered)
     from (Ok answered) step = record { step = step; sound = sound; within = within }
     from (Err why) step = tt
+
+-- want of memory in an act that is done whole or not at all
+pub cut-whole : (before after : Parts) (client : ℕ) (asked : Act) (given : Result ReplyBody NoMemory) (result : Result ReplyBody CutShort) → result ≡ at_once given →
+    OnErr given (state_from after ≡ state_from before) → IsSound after → IfErr result (λ cut. IsCut before after client asked cut.done)
+cut-whole before after client asked given result once same sound = rw once (from given same)
+  where
+    from : (given : Result ReplyBody NoMemory) → OnErr given (state_from after ≡ state_from before) → IfErr (at_once given) (λ cut. IsCut before after client asked cut.done)
+    from (Ok answered) same = tt
+    from (Err why) same = nothing refl same sound
+
+-- an act that takes no memory
+pub done-now : (before after : Parts) (client : ℕ) (asked what : Act) (answered : ReplyBody) → asked ≡ what →
+    record { state = state_from after; body = answered } ≡ act_step (state_from before) client what → IsSound after →
+    ((entries : ℕ) → IsWithin entries before → IsWithin (entries_with entries what) after) → IsDone before after client asked answered
+done-now before after client asked what answered is step sound within = rw is (record { step = step; sound = sound; within = within })
 
 -- a turn that has done all that it could
 pub done-turn : (before after : Parts) (client thread most : ℕ) (asked : Act) (result : Result ReplyBody CutShort) → asked ≡ act.Turn thread most →

@@ -1,6 +1,7 @@
 -- Where a link's cell is.
-use Rattle.std.proofs.Common.{◌≡◌, ℕ, suc, ◌+◌, ◌<◌, Bool, true, false, List, [], ◌∷◌, ◌++◌, Option, None, Some, length, take, get_or, refl, ap, sym, ◌∙◌}
+use Rattle.std.proofs.Common.{◌≡◌, ℕ, suc, ◌+◌, ◌<◌, Bool, true, false, List, [], ◌∷◌, ◌++◌, Option, None, Some, length, take, get_or, refl, ap, sym, ◌∙◌, arith}
 use Rattle.std.specs.Prelude.{option_map, if◌then◌else◌}
+use Rattle.std.proofs.lemmas.List.{length-take-le, take_more}
 use Rattle.std.specs.Option.{option_or}
 use Rattle.jsh_tree.specs.declared.key.Link.{Link}
 use Rattle.jsh_tree.specs.contracts.key.LinkPartialEq.TheImpl as link_comparison
@@ -20,3 +21,20 @@ pub cell_place-other : (link : Link) (cells : List Cell) (cell : Cell) → is_of
 cell_place-other link [] cell is = rw is refl
 cell_place-other link (first ∷ cells) cell is =
     ap (λ (o : Option ℕ). option_or (option_map suc o) (if is_of link first then Some 0 else None)) (cell_place-other link cells cell is)
+
+-- the places up to this one end with its cell
+front : (cells : List Cell) (n : ℕ) (cell : Cell) → n < length cells → cell ≡ get_or cells n cell → take (n + 1) cells ≡ take n cells ++ cell ∷ []
+front cells n cell within is = take_more cells n cell within ∙ ap (λ (x : Cell). take n cells ++ x ∷ []) (sym is)
+
+-- the cell is the link's, and no later one is
+pub cell_place-found : (link : Link) (cells : List Cell) (n : ℕ) (cell : Cell) → n < length cells → cell ≡ get_or cells n cell → is_of link cell ≡ true →
+    cell_place link cells ≡ cell_place link (take (n + 1) cells) → cell_place link cells ≡ Some n
+cell_place-found link cells n cell within is same found =
+    let count : length (take n cells) ≡ n = length-take-le n cells (omega arith) in
+    found ∙ ap (cell_place link) (front cells n cell within is) ∙ cell_place-last link (take n cells) cell same ∙ ap Some count
+
+-- the cell is another link's
+pub cell_place-before : (link : Link) (cells : List Cell) (n : ℕ) (cell : Cell) → n < length cells → cell ≡ get_or cells n cell → is_of link cell ≡ false →
+    cell_place link cells ≡ cell_place link (take (n + 1) cells) → cell_place link cells ≡ cell_place link (take n cells)
+cell_place-before link cells n cell within is other found =
+    found ∙ ap (cell_place link) (front cells n cell within is) ∙ cell_place-other link (take n cells) cell other

@@ -71,6 +71,24 @@ open_length (x ∷ xs) o = from (closes x) o (open_length xs)
 closed_at-open : (h : List Entry) → list_any closes h ≡ false → closed_at h ≡ None
 closed_at-open h o = rw (open_length h o, le-ltb (length h) (length h) (le_refl (length h))) refl
 
+closed_length : (h : List Entry) → list_any closes h ≡ true → position_or_len closes h < length h
+closed_length [] c = cc
+closed_length (x ∷ xs) c = from (closes x) c (closed_length xs)
+  where
+    from : (b : Bool) → (b || list_any closes xs) ≡ true → (list_any closes xs ≡ true → position_or_len closes xs < length xs) → cond (not b) (1 + position_or_len closes xs) 0 < suc (length xs)
+    from true e h = omega arith
+    from false e h = let below : position_or_len closes xs < length xs = h e in omega (arith, below)
+
+-- a history without a close is open
+pub open-closed_at : (h : List Entry) → closed_at h ≡ None → list_any closes h ≡ false
+open-closed_at h none = from (list_any closes h) refl
+  where
+    from : (b : Bool) → list_any closes h ≡ b → b ≡ false
+    from false e = refl
+    from true e =
+        let some : closed_at h ≡ Some (position_or_len closes h) = rw (lt-ltb (position_or_len closes h) (length h) (closed_length h e)) refl in
+        cc
+
 open_length_more : (h : List Entry) (e : Entry) → list_any closes h ≡ false → position_or_len closes (h ++ e ∷ []) ≡ length h + cond (closes e) 0 1
 open_length_more h e o =
     position_or_len_push closes h e ∙ rw (open_length h o, eqb_same (length h)) refl

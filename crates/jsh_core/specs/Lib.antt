@@ -10,6 +10,8 @@ pub mod Drops
 pub mod Clients
 pub mod Questions
 pub mod Step
+pub mod Causes
+pub mod Fates
 pub mod History
 pub mod Acts
 pub mod Stands

@@ -40,6 +40,8 @@ impl Core {
     ghost use Rattle.jsh_core.specs.declared.world.RunView.{RunView};
     ghost use Rattle.jsh_core.specs.Step.{kept, step};
     ghost use Rattle.jsh_core.specs.Runs.{run_view};
+    ghost use Rattle.jsh_core.specs.Causes.{AnswerHasCause};
+    ghost use Rattle.jsh_core.specs.Fates.{HasRun};
     ghost use Rattle.jsh_core.specs.History.{closed_at, source_bytes, state_of, Allows, IsLegal};
     ghost use Rattle.jsh_core.specs.Stands.{IsCutShort};
 
@@ -83,6 +85,7 @@ impl Core {
     ) -> Result<Reply, NoMemory>
         requires { Allows self.old entry }
         ensures reply { IfOk result (λ reply. reply ≡ (step (state_of self.old) entry).reply) }
+        ensures causes { IfOk result (λ reply. AnswerHasCause (state_of self.old) entry reply.body) }
         ensures history { IfOk result (λ reply. self.new ≡ self.old ++ kept entry reply ∷ []) }
         ensures err { OnErr result (IsCutShort self.old entry self.new) }
 
@@ -138,6 +141,9 @@ impl Core {
     /// A run, or None where it was never made, was collected or was dropped.
     pub fn run(&self, run: u32) -> Option<RunView>
         ensures view { result ≡ run_view (state_of self.now) run }
+
+        // Whoever it is shown with made it, and has neither got it handed out nor left since, and nobody has reset all.
+        ensures made { (owner : ℕ) → (option_map (λ (view : RunView). view.owner) result ≡ Some owner) ↔ HasRun self.now owner run }
     {
         view_run(&self.parts, run)
     }

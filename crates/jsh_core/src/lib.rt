@@ -8,6 +8,7 @@ mod delivery;
 mod drops;
 mod engine;
 mod generation;
+mod laws;
 mod limits;
 mod lists;
 mod log;
@@ -20,5 +21,6 @@ mod turns;
 mod world;
 
 pub use engine::Core;
+pub use laws::{stops_have_entries, sums_have_values};
 pub use limits::{MOST_BYTES, MOST_CLIENTS, MOST_ENTRIES, MOST_RECORDS, MOST_STEPS, MOST_THREADS};
 pub use world::RunView;

@@ -106,7 +106,7 @@ pub fn add_run(
     requires few_runs { length world.old.runs.items ≤ most_entries }
     ensures after { (what : Option Body) → thread ≡ option_map (main_thread client) what → world_of world.new ≡ with_run_of (world_of world.old) client snippet what }
     ensures number { result ≡ option_map (λ (started : Thread). length world.old.runs.items + 1) thread }
-    ensures sound { IsWorld world.old → (what : Option Body) → thread ≡ option_map (main_thread client) what → IsWorld world.new }
+    ensures sound { IsWorld world.old → IsWorld world.new }
 {
     let thread = thread?;
     let main = world.threads.len() as u32 + 1;

@@ -7,7 +7,7 @@ ghost use Rattle.jsh_verdict.specs.Verdict.{tree_of};
 ghost use Rattle.jsh_core.specs.Limits.{most_entries, most_records, most_threads};
 ghost use Rattle.jsh_core.specs.Snippets as spec;
 ghost use Rattle.jsh_core.specs.Snippets.{published, submitted, temporary_key};
-ghost use Rattle.jsh_core.specs.Parts.{generation_of, state_from, IsSound, IsWithin};
+ghost use Rattle.jsh_core.specs.Parts.{generation_of, state_from, IsSound, IsWithin, IsWorld};
 
 use crate::generation::{Live, Plan};
 use crate::limits::{MOST_RECORDS, MOST_THREADS};
@@ -261,8 +261,7 @@ fn publish(
     requires alive { IsSome plan.run → parts.old.world.alive < most_threads }
     ensures ok { IfOk result (λ body. record { state = state_from parts.new; body = body } ≡ published (state_from parts.old) client plan) }
     ensures err { OnErr result (state_from parts.new ≡ state_from parts.old) }
-    ensures sound { IsSound parts.new }
-    ensures within { (entries : ℕ) → IsWithin entries parts.old → IsWithin (entries + 1) parts.new }
+    ensures world { IsWorld parts.new.world }
 {
     let Plan {
         snippet,

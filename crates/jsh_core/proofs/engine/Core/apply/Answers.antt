@@ -2,8 +2,9 @@
 use Rattle.std.proofs.Common.{◌≤◌, ◌+◌, length, min, vec_capacity, ap, subst, ◌∙◌, arith}
 use Rattle.jsh_snippet.specs.declared.acts.Entry.{Entry}
 use Rattle.jsh_core.specs.State.{State, Stepped}
-use Rattle.jsh_core.specs.Step.{act_step}
+use Rattle.jsh_core.specs.Step.{act_step, step}
 use Rattle.jsh_core.specs.History.{state_of, Allows}
+use Rattle.jsh_core.proofs.CauseLemmas.{reply-causes}
 use Rattle.jsh_core.proofs.DeliveryLemmas.{IsReplied, replied-done}
 use Rattle.jsh_core.proofs.KeptLemmas.{IsRoomy, StandsFor-cut, StandsFor-kept}
 use Rattle.jsh_core.proofs.ActLemmas.{served-allowed}
@@ -62,3 +63,12 @@ invariant_of-self-then-cut-gt0 g c =
     } in
     StandsFor-cut c.self.inside.log c.make_room.new.log c.push_entry-then-cut-gt0.new.log c.args.entry c.self.inside.parts c.perform.new.parts c.in-Err.cut.done c.self.invariant allowed roomy
     (subst (λ (e : Entry). IsLonger c.make_room.new.log c.push_entry-then-cut-gt0.new.log e) c.with_steps.ensures longer) c.if-cut-gt0.true c.in-Err.ensures.cut
+
+pub returns-in-Ok-clause-causes : goal.returns-in-Ok-clause-causes
+returns-in-Ok-clause-causes g c =
+    let replied : IsReplied c.self.inside.parts c.deliver.new.parts c.args.entry.client c.args.entry.act c.deliver.result =
+    replied-done c.self.inside.parts c.perform.new.parts c.deliver.new.parts c.args.entry.client c.args.entry.act c.in-Ok.body c.deliver.result
+    c.in-Ok.ensures.done c.deliver.ensures.step c.deliver.ensures.sound c.deliver.ensures.within in
+    reply-causes c.args.self.now c.args.entry c.deliver.result c.requires c.perform.ensures.utf8
+    (ap (λ (s : Stepped). s.reply) replied.step
+    ∙ ap (λ (s : State). (step s c.args.entry).reply) (c.self.invariant.state ∙ ap state_of c.self.view_is))
