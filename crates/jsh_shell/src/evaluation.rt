@@ -116,8 +116,13 @@ pub fn serve_command<O: Sink, L: Ledger>(
         Ok(run) => run,
         Err(why) => return Err(why),
     };
-    match run {
-        Some(run) => evaluate(alloc, session, client, budget, sink, run, steps),
-        None => Ok(()),
+    let run = match run {
+        Some(run) => run,
+        None => return Ok(()),
+    };
+    match evaluate(alloc, session, client, budget, sink, run, steps) {
+        Ok(()) => (),
+        Err(why) => return Err(why),
     }
+    Ok(())
 }

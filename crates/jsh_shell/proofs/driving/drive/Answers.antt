@@ -1,5 +1,6 @@
 -- Turn by turn.
-use Rattle.std.proofs.Common.{◌≡◌, ◌≤◌, ◌<◌, ◌+◌, ℕ, [], arith, ap, sym, subst, ◌∙◌, refl}
+use Rattle.std.proofs.Common.{◌≡◌, ◌≤◌, ◌<◌, ◌+◌, ℕ, [], arith, ap, sym, subst, ◌∙◌, refl, Err}
+use Rattle.jsh_shell.specs.declared.halts.Halt.TheVariants as halt
 use Rattle.jsh_shell.specs.Progress.Phase.{Evaluating}
 use Rattle.jsh_shell.specs.Serving.{Drives}
 use Rattle.jsh_shell.proofs.ServeLemmas.{serves-append, serves-nothing, serves-part-append}
@@ -9,7 +10,7 @@ pub turns-init : goal.turns-init
 turns-init g c = record { «open» = c.requires; within = omega arith; drives = λ held. serves-nothing _ _ _ _ held }
 
 pub returns-in-None-clause-ok : goal.returns-in-None-clause-ok
-returns-in-None-clause-ok g c = (c.turns.used, c.turns-test.true, c.next_turn.ensures.none _, c.turns.invariant.drives)
+returns-in-None-clause-ok g c = (c.turns.used, c.turns-test.true, c.in-None.ensures.none c.args.client, c.turns.invariant.drives)
 
 pub returns-in-None-clause-open : goal.returns-in-None-clause-open
 returns-in-None-clause-open g c = c.turns.invariant.open
@@ -33,7 +34,7 @@ pub returns-in-Err-clause-open : goal.returns-in-Err-clause-open
 returns-in-Err-clause-open g c = c.in-Err.ensures.open
 
 pub returns-in-Err-clause-sink : goal.returns-in-Err-clause-sink
-returns-in-Err-clause-sink g c = λ e. c.in-Err.ensures.sink e
+returns-in-Err-clause-sink g c = λ e. let sunk : c.in-Err.why ≡ halt.SinkFailed = cc in c.in-Err.ensures.sink (ap Err sunk)
 
 pub turns-preserved : goal.turns-preserved
 turns-preserved g c = record {

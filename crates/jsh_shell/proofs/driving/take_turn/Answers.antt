@@ -25,6 +25,19 @@ apply-requires g c =
     let some : length c.args.session.now.core < most_entries = omega (arith, c.len.ensures.entries, c.if-len-ge-MOST_ENTRIES.false) in
     record { present = c.requires.open.present; «open» = c.requires.open.«open»; may = (some, omega arith, omega arith) }
 
+pub overflow_sub-budget : goal.overflow_sub-budget
+overflow_sub-budget g c = omega (arith, c.requires.below)
+
+pub overflow_cast-result : goal.overflow_cast-result
+overflow_cast-result g c =
+    let within = drives-within c.args.budget c.args.client c.args.run c.args.used c.turn_steps.result c.args.session.now c.args.turn c.in-Ok.reply c.requires.turn c.requires.below c.turn_steps.ensures c.in-Ok.ensures.reply in
+    omega (arith, within.1, c.steps_done.ensures, c.ranges.budget.fits)
+
+pub overflow_add-result : goal.overflow_add-result
+overflow_add-result g c =
+    let within = drives-within c.args.budget c.args.client c.args.run c.args.used c.turn_steps.result c.args.session.now c.args.turn c.in-Ok.reply c.requires.turn c.requires.below c.turn_steps.ensures c.in-Ok.ensures.reply in
+    omega (arith, within.1, c.steps_done.ensures, c.ranges.budget.fits)
+
 pub returns-in-Ok-clause-ok : goal.returns-in-Ok-clause-ok
 returns-in-Ok-clause-ok g c =
     subst (λ (n : ℕ). Drives c.args.budget c.args.client c.args.run c.args.used (c.args.used + n) c.args.session.now c.note_turn.new.session) (sym c.steps_done.ensures)

@@ -54,20 +54,20 @@ perform-requires-clause-quiet g c = ap is_turn c.last_act.ensures ∙ last-quiet
 pub perform-requires-clause-stays : goal.perform-requires-clause-stays
 perform-requires-clause-stays g c = ap is_last c.last_act.ensures ∙ last-stays _ _ c.in-Ok.driven
 
-pub returns-in-Ok-clause-ok : goal.returns-in-Ok-clause-ok
-returns-in-Ok-clause-ok g c =
+pub returns-in-Ok-perform-clause-ok : goal.returns-in-Ok-perform-clause-ok
+returns-in-Ok-perform-clause-ok g c =
     evaluated c.in-Ok.driven _ _ _ _ _ _ _ _ c.in-Ok-perform._reply c.in-Ok.ensures.ok
     (subst (λ (what : Act). Shows c.drive.new.session.core c.perform.new.core (by c.args.client what) c.in-Ok-perform._reply (g.O.Sink.held c.args.sink.now) (g.O.Sink.held c.perform.new.sink)) c.last_act.ensures c.in-Ok-perform.ensures.ok)
     c.in-Ok-perform.ensures.free
 
-pub returns-in-Ok-clause-open : goal.returns-in-Ok-clause-open
-returns-in-Ok-clause-open g c = c.in-Ok-perform.ensures.open
+pub returns-in-Ok-perform-clause-open : goal.returns-in-Ok-perform-clause-open
+returns-in-Ok-perform-clause-open g c = c.in-Ok-perform.ensures.open
 
-pub returns-in-Ok-clause-counts : goal.returns-in-Ok-clause-counts
-returns-in-Ok-clause-counts g c = c.in-Ok-perform.ensures.counts
+pub returns-in-Ok-perform-clause-counts : goal.returns-in-Ok-perform-clause-counts
+returns-in-Ok-perform-clause-counts g c = c.in-Ok-perform.ensures.counts
 
-pub returns-in-Ok-clause-stream : goal.returns-in-Ok-clause-stream
-returns-in-Ok-clause-stream g c = c.in-Ok-perform.ensures.stream
+pub returns-in-Ok-perform-clause-stream : goal.returns-in-Ok-perform-clause-stream
+returns-in-Ok-perform-clause-stream g c = c.in-Ok-perform.ensures.stream
 
 pub returns-in-Err-perform-clause-err : goal.returns-in-Err-perform-clause-err
 returns-in-Err-perform-clause-err g c =

@@ -1,5 +1,5 @@
 -- The command is handed in by the entry that is performed.
-use Rattle.std.proofs.Common.{◌≡◌, ◌≤◌, ◌⊎◌, ℕ, Option, length, ap, sym, ◌∙◌, refl, subst}
+use Rattle.std.proofs.Common.{[], ◌∷◌, ◌≡◌, ◌≤◌, ◌⊎◌, ℕ, Option, length, ap, sym, ◌∙◌, refl, subst}
 use Rattle.jsh_snippet.specs.declared.acts.Act.{Act}
 use Rattle.jsh_core.specs.Acts.{is_last}
 use Rattle.jsh_core.specs.Limits.{most_entries}
