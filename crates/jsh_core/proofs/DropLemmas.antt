@@ -1,5 +1,5 @@
--- The only item that a test holds of.
-use Rattle.std.proofs.Common.{◌≡◌, ℕ, zero, suc, ◌+◌, ◌<◌, ◌≤◌, Bool, true, false, List, [], ◌∷◌, length, filter, find, Option, None, Some, refl, ap, sym, arith, cond, ◌∙◌}
+-- The only item that a test holds of, and what is in force without a declaration.
+use Rattle.std.proofs.Common.{◌≡◌, ℕ, ◌≤◌, Bool, true, false, List, [], ◌∷◌, length, filter, find, Option, None, Some, refl, sym, arith, cond, ◌∙◌}
 use Rattle.std.specs.List.{slice_get}
 use Rattle.jsh_snippet.specs.declared.replies.Refusal.TheVariants as refusal
 use Rattle.jsh_core.specs.declared.generation.Live.{Live}
@@ -11,11 +11,11 @@ use Rattle.jsh_core.specs.Drops.{drop_id, drop_only, generation_without}
 -- the first item that is found is the first that is filtered
 pub find-filter : {A : Type 0} (p : A → Bool) (xs : List A) → find p xs ≡ slice_get (filter p xs) 0
 find-filter p [] = refl
-find-filter p (x ∷ xs) = from (p x)
+find-filter p (x ∷ xs) = from (p x) (find-filter p xs)
   where
-    from : (is : Bool) → cond is (Some x) (find p xs) ≡ slice_get (cond is (x ∷ filter p xs) (filter p xs)) 0
-    from true = refl
-    from false = find-filter p xs
+    from : (is : Bool) → find p xs ≡ slice_get (filter p xs) 0 → cond is (Some x) (find p xs) ≡ slice_get (cond is (x ∷ filter p xs) (filter p xs)) 0
+    from true rest = refl
+    from false rest = rest
 
 one_item : {A : Type 0} (xs : List A) (x : A) → length xs ≡ 1 → slice_get xs 0 ≡ Some x → xs ≡ x ∷ []
 one_item [] x one found = cc
@@ -28,14 +28,11 @@ only-found p xs x one found = one_item (filter p xs) x one (rw (find-filter p xs
 
 pub length-filter_most : {A : Type 0} (p : A → Bool) (xs : List A) → length (filter p xs) ≤ length xs
 length-filter_most p [] = omega arith
-length-filter_most p (x ∷ xs) = from (p x)
+length-filter_most p (x ∷ xs) = from (p x) (length-filter_most p xs)
   where
-    rest : length (filter p xs) ≤ length xs
-    rest = length-filter_most p xs
-
-    from : (is : Bool) → length (cond is (x ∷ filter p xs) (filter p xs)) ≤ length (x ∷ xs)
-    from true = omega (arith, rest)
-    from false = omega (arith, rest)
+    from : (is : Bool) → length (filter p xs) ≤ length xs → length (cond is (x ∷ filter p xs) (filter p xs)) ≤ length (x ∷ xs)
+    from true rest = omega (arith, rest)
+    from false rest = omega (arith, rest)
 
 -- where another number than one is found, none is taken back
 pub drop_only-other : (s : State) (name : List ℕ) (found : List Live) → (length found ≡ 1 → ⊥) → drop_only s name found ≡ refuses s (refusal.NoSuchName name (length found))
@@ -43,13 +40,13 @@ drop_only-other s name [] other = refl
 drop_only-other s name (live ∷ []) other = absurd (other refl)
 drop_only-other s name (live ∷ next ∷ rest) other = refl
 
+has_first : {A : Type 0} (xs : List A) → length xs ≡ 1 → slice_get xs 0 ≡ None → ⊥
+has_first [] one none = omega (arith, one)
+has_first (x ∷ xs) one none = cc
+
 -- where one is filtered, it is found
 pub found-one : {A : Type 0} (p : A → Bool) (xs : List A) → length (filter p xs) ≡ 1 → find p xs ≡ None → ⊥
-found-one p xs one none = from (filter p xs) one (sym (find-filter p xs) ∙ none)
-  where
-    from : (ys : List A) → length ys ≡ 1 → slice_get ys 0 ≡ None → ⊥
-    from [] one none = omega (arith, one)
-    from (y ∷ ys) one none = cc
+found-one p xs one none = has_first (filter p xs) one (sym (find-filter p xs) ∙ none)
 
 -- the only one with the name is taken back
 pub drop_only-one : (s : State) (name : List ℕ) (p : Live → Bool) (xs : List Live) (live : Live) → length (filter p xs) ≡ 1 → find p xs ≡ Some live →

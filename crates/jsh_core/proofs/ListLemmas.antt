@@ -1,8 +1,7 @@
--- Items with numbers, and one place more of a list that is worked through.
-use Rattle.std.proofs.Common.{◌≡◌, ℕ, zero, suc, ◌+◌, ◌-◌, ◌<◌, ◌≤◌, Bool, true, false, List, [], ◌∷◌, ◌++◌, Option, None, Some, length, map, take, drop, set, get_or, refl, ap, sym, subst, ◌∙◌, arith, cond, ◌==◌, append_assoc, add-one, drop-cons}
-use Rattle.std.specs.List.{slice_get, slice_set}
+-- Items with numbers.
+use Rattle.std.proofs.Common.{◌≡◌, ℕ, zero, suc, ◌-◌, ◌<◌, Bool, true, false, List, None, Some, length, get_or, refl, arith, cond, ◌==◌}
+use Rattle.std.specs.List.{slice_get}
 use Rattle.std.proofs.lemmas.Option.{get_or_from_slice_get, slice_get-get_or, slice_get_within}
-use Rattle.std.proofs.lemmas.List.{take_more_set, drop-set-lt}
 use Rattle.std.proofs.lemmas.Bool.{eqb-true}
 use Rattle.jsh_core.specs.State.{numbered}
 
@@ -39,10 +38,3 @@ numbered-at items number d positive within = from (number == 0) refl
     from : (first : Bool) → (number == 0) ≡ first → cond first None (slice_get items (number - 1)) ≡ Some (get_or items (number - 1) d)
     from true z = absurd (omega (arith, eqb-true number 0 z))
     from false z = slice_get-get_or items (number - 1) d within
-
--- what a map comes to, where the places below i are done
-pub mapped-more : {A : Type 0} (f : A → A) (i : ℕ) (xs : List A) (y d : A) → i < length xs → y ≡ f (get_or xs i d) →
-    take i xs ++ map f (drop i xs) ≡ take (i + 1) (set xs i y) ++ map f (drop (i + 1) (set xs i y))
-mapped-more f i xs y d within is =
-    let low : i < i + 1 = omega arith in
-    rw (take_more_set xs i y within, drop-set-lt (i + 1) xs i y low, append_assoc (take i xs) (y ∷ []) (map f (drop (i + 1) xs)), drop-cons xs i d within, is, add-one) refl

@@ -1,36 +1,19 @@
--- One place more of the lists of states and threads, and what stopping keeps.
-use Rattle.std.proofs.Common.{◌≡◌, ℕ, zero, suc, ◌+◌, ◌-◌, ◌<◌, ◌≤◌, Bool, true, false, List, [], ◌∷◌, ◌++◌, Option, None, Some, length, take, drop, set, get_or, refl, ap, sym, ◌∙◌, arith, cond, append_assoc, add-one, drop-cons}
-use Rattle.std.specs.Prelude.{◌&&◌, ◌==◌, if◌then◌else◌}
+-- What stopping threads keeps.
+use Rattle.std.proofs.Common.{◌≡◌, ℕ, suc, ◌+◌, ◌-◌, ◌<◌, ◌≤◌, Bool, true, false, List, [], ◌∷◌, Option, None, Some, length, set, get_or, refl, ap, sym, ◌∙◌, arith, cond}
+use Rattle.std.specs.Prelude.{◌&&◌, if◌then◌else◌}
 use Rattle.std.specs.List.{All, count_by, slice_get, sum_by}
 use Rattle.std.specs.Option.{option_map_or}
 use Rattle.std.proofs.lemmas.Option.{get_or_from_slice_get, slice_get_within}
-use Rattle.std.proofs.lemmas.List.{take_more_set, drop-set-lt}
 use Rattle.std.proofs.lemmas.List.Sums.{sum_by-set}
-use Rattle.std.proofs.lemmas.List.Elements.{All-nil, All-cons, All-head, All-tail, All-set, All-get_or}
+use Rattle.std.proofs.lemmas.List.Elements.{All-cons, All-head, All-tail, All-set, All-get_or}
 use Rattle.jsh_sched.specs.declared.ThreadState.{ThreadState}
 use Rattle.jsh_sched.specs.declared.ThreadState.TheVariants as thread_state
 use Rattle.jsh_sched.specs.ThreadState.{is_alive}
 use Rattle.jsh_core.specs.declared.world.Thread.{Thread}
 use Rattle.jsh_core.specs.State.{World, numbered}
-use Rattle.jsh_core.specs.Threads.{is_owned, is_thread_alive, ended_by_stop, stop_found, stop_thread, stopped_states, stopped_threads}
+use Rattle.jsh_core.specs.Threads.{is_owned, is_thread_alive, ended_by_stop, stop_thread, stopped_states, stopped_threads}
 use Rattle.jsh_core.specs.Parts.{StepsAtMost}
 use Rattle.jsh_core.proofs.ListLemmas.{HasNumber, HasNumber-of, numbered-at}
-
--- the states, where those below i are done
-pub stopped_states-more : (owner : Option ℕ) (i : ℕ) (states : List ThreadState) (threads : List Thread) (y s : ThreadState) (t : Thread) → i < length states → i < length threads → t ≡ get_or threads i t →
-    y ≡ (if is_alive (get_or states i s) && is_owned owner t then thread_state.Stopped else get_or states i s) →
-    take i states ++ stopped_states owner (drop i states) (drop i threads) ≡ take (i + 1) (set states i y) ++ stopped_states owner (drop (i + 1) (set states i y)) (drop (i + 1) threads)
-stopped_states-more owner i states threads y s t within beside there is =
-    let low : i < i + 1 = omega arith in
-    rw (take_more_set states i y within, drop-set-lt (i + 1) states i y low, append_assoc (take i states) (y ∷ []) (stopped_states owner (drop (i + 1) states) (drop (i + 1) threads)), drop-cons states i s within, drop-cons threads i t beside, ← there, is, add-one) refl
-
--- the threads, where those below i are done
-pub stopped_threads-more : (owner : Option ℕ) (i : ℕ) (states : List ThreadState) (threads : List Thread) (s : ThreadState) (y t : Thread) → i < length states → i < length threads →
-    y ≡ (if is_alive (get_or states i s) && is_owned owner (get_or threads i t) then ended_by_stop (get_or threads i t) else get_or threads i t) →
-    take i threads ++ stopped_threads owner (drop i states) (drop i threads) ≡ take (i + 1) (set threads i y) ++ stopped_threads owner (drop (i + 1) states) (drop (i + 1) (set threads i y))
-stopped_threads-more owner i states threads s y t within beside is =
-    let low : i < i + 1 = omega arith in
-    rw (take_more_set threads i y beside, drop-set-lt (i + 1) threads i y low, append_assoc (take i threads) (y ∷ []) (stopped_threads owner (drop (i + 1) states) (drop (i + 1) threads)), drop-cons states i s within, drop-cons threads i t beside, is, add-one) refl
 
 owned_ended : (owner : Option ℕ) (t : Thread) → is_owned owner (ended_by_stop t) ≡ is_owned owner t
 owned_ended None t = refl

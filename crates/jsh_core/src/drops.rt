@@ -69,7 +69,12 @@ fn kind_of_record(found: &Record) -> Kind
 }
 
 /// The answer to the drop of a record, while its declaration is in force.
-fn drop_reply(alloc: Global, generation: &GenerationParts, id: u32, kind: Kind) -> Result<ReplyBody, NoMemory>
+fn drop_reply(
+    alloc: Global,
+    generation: &GenerationParts,
+    id: u32,
+    kind: Kind,
+) -> Result<ReplyBody, NoMemory>
     ensures { IfOk result (λ answer. answer ≡ body.Dropped id kind (spec.name_of_record id) (spec.drop_event id (spec.live_of (generation_of generation.now) id) ∷ [])) }
 {
     let event = drop_event(alloc, id, live_of(generation, id))?;
@@ -204,7 +209,11 @@ fn drop_named(parts: &mut Parts, alloc: Global, name: &Name) -> Result<ReplyBody
 }
 
 /// A snippet is taken back, by its number or by the name of what it declares.
-pub fn drop_snippet(parts: &mut Parts, alloc: Global, target: &Target) -> Result<ReplyBody, NoMemory>
+pub fn drop_snippet(
+    parts: &mut Parts,
+    alloc: Global,
+    target: &Target,
+) -> Result<ReplyBody, NoMemory>
     requires sound { IsSound parts.old }
     requires few { parts.old.generation.number + 1 < 2 ^ 64 }
     ensures ok { IfOk result (λ answer. record { state = state_from parts.new; body = answer } ≡ spec.drop_snippet (state_from parts.old) target.now) }

@@ -1,10 +1,9 @@
 //! What a question is answered.
 
-ghost use Rattle.std.specs.Prelude.{◌≡◌, ◌∷◌, ◌++◌, [], length, map, filter, option_map, IfOk, OnOk};
-ghost use Rattle.std.specs.List.{flat_map, repeat};
+ghost use Rattle.std.specs.Prelude.{◌≡◌, ◌++◌, length, map, filter, option_map, IfOk, OnOk};
+ghost use Rattle.std.specs.List.{repeat};
 ghost use Rattle.std.specs.Option.{option_to_list};
 ghost use Rattle.jsh_snippet.specs.Names.{type_text};
-ghost use Rattle.jsh_snippet.specs.declared.replies.ReplyBody.TheVariants as body;
 ghost use Rattle.jsh_core.specs.Generations as generations;
 ghost use Rattle.jsh_core.specs.Questions as spec;
 ghost use Rattle.jsh_core.specs.Parts.{state_from, world_of, IsSound};
@@ -282,11 +281,7 @@ fn invalid_line(alloc: Global, line: &str) -> Result<Line, NoMemory>
 }
 
 /// The lines that answer a question.
-fn answer_lines(
-    parts: &Parts,
-    alloc: Global,
-    question: &Question,
-) -> Result<Seq<Line>, NoMemory>
+fn answer_lines(parts: &Parts, alloc: Global, question: &Question) -> Result<Seq<Line>, NoMemory>
     requires { length parts.now.world.states.items ≡ length parts.now.world.threads.items }
     ensures { IfOk result (λ lines. lines ≡ spec.answer_lines (state_from parts.now) question.now) }
 {

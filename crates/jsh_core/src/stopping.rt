@@ -4,7 +4,6 @@ ghost use Rattle.std.specs.Prelude.{◌≡◌, ℕ, ◌&&◌, if◌then◌else�
 ghost use Rattle.std.specs.List.{count_by};
 ghost use Rattle.jsh_sched.specs.declared.ThreadState.TheVariants as thread_state;
 ghost use Rattle.jsh_sched.specs.ThreadState.{is_alive};
-ghost use Rattle.jsh_core.specs.State.{World};
 ghost use Rattle.jsh_core.specs.Threads as spec;
 ghost use Rattle.jsh_core.specs.Parts.{world_of, IsWorld, StepsAtMost};
 

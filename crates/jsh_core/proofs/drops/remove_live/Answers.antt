@@ -3,7 +3,6 @@ use Rattle.std.proofs.Common.{◌≡◌, ◌==◌, ◌∙◌, ap, sym, true, fil
 use Rattle.std.specs.Prelude.{not}
 use Rattle.std.specs.Option.{is_some}
 use Rattle.std.proofs.lemmas.Fn.{filter_same}
-
 use Rattle.jsh_core.specs.declared.generation.Live.{Live}
 use Rattle.jsh_core.specs.State.{Generation}
 use Rattle.jsh_core.specs.Drops.{live_of}

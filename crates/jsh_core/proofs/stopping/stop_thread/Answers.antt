@@ -1,5 +1,5 @@
 -- An alive thread is stopped.
-use Rattle.std.proofs.Common.{◌≡◌, true, false, arith}
+use Rattle.std.proofs.Common.{◌≡◌, true, arith}
 use Rattle.std.proofs.lemmas.Grind.{common_steps}
 use Rattle.jsh_core.specs.Threads.{is_thread_alive}
 use Rattle.jsh_core.specs.Parts.{world_of}
