@@ -1,5 +1,5 @@
 -- Where a link's cell is.
-use Rattle.std.proofs.Common.{◌≡◌, ℕ, suc, ◌+◌, ◌<◌, Bool, true, false, List, [], ◌∷◌, ◌++◌, Option, None, Some, length, take, get_or, refl, ap, sym, ◌∙◌, arith}
+use Rattle.std.proofs.Common.{◌≡◌, ℕ, suc, ◌+◌, ◌<◌, Bool, true, false, List, [], ◌∷◌, ◌++◌, Option, None, Some, length, take, get_or, refl, ap, ◌∙◌, arith}
 use Rattle.std.specs.Prelude.{option_map, if◌then◌else◌}
 use Rattle.std.proofs.lemmas.List.{length-take-le, take_more}
 use Rattle.std.specs.Option.{option_or}
@@ -22,19 +22,15 @@ cell_place-other link [] cell is = rw is refl
 cell_place-other link (first ∷ cells) cell is =
     ap (λ (o : Option ℕ). option_or (option_map suc o) (if is_of link first then Some 0 else None)) (cell_place-other link cells cell is)
 
--- the places up to this one end with its cell
-front : (cells : List Cell) (n : ℕ) (cell : Cell) → n < length cells → cell ≡ get_or cells n cell → take (n + 1) cells ≡ take n cells ++ cell ∷ []
-front cells n cell within is = take_more cells n cell within ∙ ap (λ (x : Cell). take n cells ++ x ∷ []) (sym is)
-
 -- the cell is the link's, and no later one is
-pub cell_place-found : (link : Link) (cells : List Cell) (n : ℕ) (cell : Cell) → n < length cells → cell ≡ get_or cells n cell → is_of link cell ≡ true →
+pub cell_place-found : (link : Link) (cells : List Cell) (n : ℕ) (d : Cell) → n < length cells → is_of link (get_or cells n d) ≡ true →
     cell_place link cells ≡ cell_place link (take (n + 1) cells) → cell_place link cells ≡ Some n
-cell_place-found link cells n cell within is same found =
+cell_place-found link cells n d within same found =
     let count : length (take n cells) ≡ n = length-take-le n cells (omega arith) in
-    found ∙ ap (cell_place link) (front cells n cell within is) ∙ cell_place-last link (take n cells) cell same ∙ ap Some count
+    found ∙ ap (cell_place link) (take_more cells n d within) ∙ cell_place-last link (take n cells) (get_or cells n d) same ∙ ap Some count
 
 -- the cell is another link's
-pub cell_place-before : (link : Link) (cells : List Cell) (n : ℕ) (cell : Cell) → n < length cells → cell ≡ get_or cells n cell → is_of link cell ≡ false →
+pub cell_place-before : (link : Link) (cells : List Cell) (n : ℕ) (d : Cell) → n < length cells → is_of link (get_or cells n d) ≡ false →
     cell_place link cells ≡ cell_place link (take (n + 1) cells) → cell_place link cells ≡ cell_place link (take n cells)
-cell_place-before link cells n cell within is other found =
-    found ∙ ap (cell_place link) (front cells n cell within is) ∙ cell_place-other link (take n cells) cell other
+cell_place-before link cells n d within other found =
+    found ∙ ap (cell_place link) (take_more cells n d within) ∙ cell_place-other link (take n cells) (get_or cells n d) other

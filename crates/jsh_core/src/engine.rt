@@ -34,7 +34,7 @@ impl Model for Core {
 }
 
 impl Core {
-    ghost use Rattle.std.specs.Prelude.{◌≡◌, ◌↔◌, ℕ, ◌∷◌, ◌++◌, [], length, slice_get, IfOk, IsOk, OnErr};
+    ghost use Rattle.std.specs.Prelude.{◌≡◌, ◌↔◌, ℕ, ◌∷◌, ◌++◌, [], ◌<◌, ◌^◌, length, slice_get, IfOk, IsOk, OnErr};
     ghost use Rattle.std.specs.Option.{option_copied, option_map};
     ghost use Rattle.jsh_snippet.specs.declared.acts.Act.TheVariants as act;
     ghost use Rattle.jsh_core.specs.declared.world.RunView.{RunView};
@@ -151,6 +151,7 @@ impl Core {
     /// The state of thread i + 1 at place i.
     pub fn states(&self) -> &[ThreadState]
         ensures threads { result.now ≡ (state_of self.now).world.states }
+        ensures few { length result.now < 2 ^ 32 }
     {
         self.parts.world.states.as_slice()
     }

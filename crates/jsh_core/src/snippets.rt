@@ -6,7 +6,7 @@ ghost use Rattle.jsh_snippet.specs.Keys.{temporary_name};
 ghost use Rattle.jsh_verdict.specs.Verdict.{tree_of};
 ghost use Rattle.jsh_core.specs.Limits.{most_entries, most_records, most_threads};
 ghost use Rattle.jsh_core.specs.Snippets as spec;
-ghost use Rattle.jsh_core.specs.Snippets.{published, submitted, temporary_key};
+ghost use Rattle.jsh_core.specs.Snippets.{submitted, temporary_key};
 ghost use Rattle.jsh_core.specs.Parts.{generation_of, state_from, IsSound, IsWithin, IsWorld};
 
 use crate::generation::{Live, Plan};
@@ -248,8 +248,15 @@ fn new_thread_for(
     }
 }
 
-/// A snippet of a client stands.
-fn publish(
+/// A limit is reached.
+fn limited(which: LimitKind, count: u64) -> ReplyBody
+    ensures { result ≡ body.Refused (refusal.Limit which count) }
+{
+    ReplyBody::Refused(Refusal::Limit { which, count })
+}
+
+/// What a snippet of a client comes to is put beside what is kept.
+fn add_snippet(
     parts: &mut Parts,
     alloc: Global,
     client: u32,
@@ -259,7 +266,7 @@ fn publish(
     requires within { IsWithin most_entries parts.old }
     requires room { length parts.old.book.items < most_records }
     requires alive { IsSome plan.run → parts.old.world.alive < most_threads }
-    ensures ok { IfOk result (λ body. record { state = state_from parts.new; body = body } ≡ published (state_from parts.old) client plan) }
+    ensures ok { IfOk result (λ body. record { state = state_from parts.new; body = body } ≡ spec.published (state_from parts.old) client plan) }
     ensures err { OnErr result (state_from parts.new ≡ state_from parts.old) }
     ensures world { IsWorld parts.new.world }
 {
@@ -298,6 +305,49 @@ fn publish(
     }))
 }
 
+/// A snippet of a client stands.
+fn publish(
+    parts: &mut Parts,
+    alloc: Global,
+    client: u32,
+    plan: Plan,
+) -> Result<ReplyBody, NoMemory>
+    requires sound { IsSound parts.old }
+    requires within { IsWithin most_entries parts.old }
+    requires room { length parts.old.book.items < most_records }
+    requires alive { IsSome plan.run → parts.old.world.alive < most_threads }
+    ensures ok { IfOk result (λ body. record { state = state_from parts.new; body = body } ≡ spec.published (state_from parts.old) client plan) }
+    ensures err { OnErr result (state_from parts.new ≡ state_from parts.old) }
+    ensures sound { IsSound parts.new }
+    ensures within { (entries : ℕ) → IsWithin entries parts.old → IsWithin (entries + 1) parts.new }
+{
+    add_snippet(parts, alloc, client, plan)
+}
+
+/// A snippet of a client stands, where there may be a thread more or it wants none.
+fn publish_below_limit(
+    parts: &mut Parts,
+    alloc: Global,
+    client: u32,
+    plan: Plan,
+) -> Result<ReplyBody, NoMemory>
+    requires sound { IsSound parts.old }
+    requires within { IsWithin most_entries parts.old }
+    requires room { length parts.old.book.items < most_records }
+    ensures ok { IfOk result (λ body. record { state = state_from parts.new; body = body } ≡ spec.published_below_limit (state_from parts.old) client plan) }
+    ensures err { OnErr result (state_from parts.new ≡ state_from parts.old) }
+    ensures sound { IsSound parts.new }
+    ensures within { (entries : ℕ) → IsWithin entries parts.old → IsWithin (entries + 1) parts.new }
+{
+    if plan.run.is_none() {
+        return publish(parts, alloc, client, plan);
+    }
+    if parts.world.alive >= MOST_THREADS {
+        return Ok(limited(LimitKind::Threads, MOST_THREADS as u64));
+    }
+    publish(parts, alloc, client, plan)
+}
+
 /// A snippet is handed in.
 pub fn submit(
     parts: &mut Parts,
@@ -320,15 +370,5 @@ pub fn submit(
     }
     let id = parts.book.len() as u32 + 1;
     let plan = plan_snippet(alloc, &parts.generation, id, source)?;
-    if plan.run.is_some() && parts.world.alive >= MOST_THREADS {
-        return Ok(limited(LimitKind::Threads, MOST_THREADS as u64));
-    }
-    publish(parts, alloc, client, plan)
-}
-
-/// A limit is reached.
-fn limited(which: LimitKind, count: u64) -> ReplyBody
-    ensures { result ≡ body.Refused (refusal.Limit which count) }
-{
-    ReplyBody::Refused(Refusal::Limit { which, count })
+    publish_below_limit(parts, alloc, client, plan)
 }

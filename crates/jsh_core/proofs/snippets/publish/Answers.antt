@@ -1,10 +1,15 @@
--- The world is that before the snippet, with its variable and its run.
-use Rattle.std.proofs.Common.{ap}
-use Rattle.jsh_core.specs.State.{State}
+-- What is kept after a snippet stands, and after want of memory.
+use Rattle.jsh_core.proofs.SnippetLemmas.{published-either, published-sound, published-within, IsPublished}
 use Rattle.jsh_core.proofs.snippets.publish.Goals as goal
 
-pub returns-clause-world : goal.returns-clause-world
-returns-clause-world c = c.add_run.ensures.sound (record {
-      states = rw (ap (λ (s : State). s.world.states) c.reserve_snippet.ensures.same, ap (λ (s : State). s.world.threads) c.reserve_snippet.ensures.same) c.requires.sound.world.states;
-      alive = rw (ap (λ (s : State). s.world.states) c.reserve_snippet.ensures.same, c.reserve_snippet.ensures.alive) c.requires.sound.world.alive;
-    })
+pub returns-clause-sound : goal.returns-clause-sound
+returns-clause-sound c =
+    let more : IsPublished c.args.parts.now c.add_snippet.new.parts =
+    published-either c.args.parts.now c.add_snippet.new.parts c.args.client c.args.plan c.add_snippet.result c.add_snippet.ensures.ok c.add_snippet.ensures.err in
+    published-sound c.args.parts.now c.add_snippet.new.parts more c.add_snippet.ensures.world c.requires.room c.requires.sound
+
+pub returns-clause-within : goal.returns-clause-within
+returns-clause-within c = λ entries h.
+    let more : IsPublished c.args.parts.now c.add_snippet.new.parts =
+    published-either c.args.parts.now c.add_snippet.new.parts c.args.client c.args.plan c.add_snippet.result c.add_snippet.ensures.ok c.add_snippet.ensures.err in
+    published-within c.args.parts.now c.add_snippet.new.parts entries more h
