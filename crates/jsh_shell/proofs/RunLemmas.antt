@@ -124,7 +124,7 @@ record IsHalted (why : Halt) (budget : ℕ) (b : Session) (x y : Option (List �
 
 halted_of : (why : Halt) (budget : ℕ) (b : Session) (x y : Option (List ℕ)) (cs : List Command) → ServesPart why budget 1 Between first_session b x y cs → IsHalted why budget b x y cs
 halted_of why budget b x y cs s =
-    let r : (q : Progress) × Halts why budget 1 (entry_of 0 act.Enter ∷ []) b.core x y (begins cs) q = s.each (entered cs) [] (first_between cs) in
+    let r : (q : Progress) × Halts why budget 1 (entry_of 0 act.Enter ∷ []) b.core x y (entered cs) q = s.each (entered cs) [] (first_between cs) in
     record {
       q = r.0;
       entries = r.1.entries;
@@ -154,8 +154,8 @@ done_free before p read d less (inl (inr (inr full))) = none p d full.0
     at_none p (Evaluating run used) e d undone = from (rw e at undone) (rw e at d.at_end)
       where
         from : (p.was_reset ≡ false) ⊎ HasCommand p.commands → p.was_reset ≡ true → ⊥
-        from (inl no) yes = let both : true ≡ false = sym yes ∙ no in cc
-        from (inr more) yes = subst HasCommand d.commands more
+        from (inl still) gone_by = let both : true ≡ false = sym gone_by ∙ still in cc
+        from (inr more) gone_by = subst HasCommand d.commands more
     at_none p CutShort e d undone = rw e at d.at_end
 
     none : (p : Progress) → IsDone p → IsUndone p → ⊥
@@ -468,6 +468,13 @@ halted-leaves halt.Limit budget status final b x y z read ended reads0 reads1 wr
     no_memory : halt.Limit ≡ halt.NoMemory → ⊥
     no_memory e = cc
 
+-- what is said to a leave was not written whole
+pub leave-breaks : (why : Halt) (status final : ℕ) (text : List ℕ) (y z : Option (List ℕ)) (writes0 writes1 : ℕ) → (why ≡ halt.Limit → ⊥) → is_unheard status ≡ false → final ≡ status_of why →
+    WritesPart y z text → HasCause why writes0 writes1 → TakesLeave status final text y z writes0 writes1
+leave-breaks halt.NoMemory status final text y z writes0 writes1 other mute is part cause = short mute is part cause
+leave-breaks halt.SinkFailed status final text y z writes0 writes1 other mute is part cause = failed mute is part cause
+leave-breaks halt.Limit status final text y z writes0 writes1 other mute is part cause = absurd (other refl)
+
 -- each way in which the serving of a client may end, and its leave behind that
 pub is-served : (budget status final : ℕ) (b : Session) (journal : List Entry) (given left x y z : Option (List ℕ)) (reads0 reads1 writes0 writes1 writes2 : ℕ) →
     journal ≡ b.core ++ entry_of 1 act.Leave ∷ entry_of 0 act.Close ∷ [] → IsEmptyWhereTold x →
@@ -553,8 +560,8 @@ began budget reads0 reads1 writes0 writes1 status b given left x y by = from by.
 
     from : Ends budget 1 status first_session b x y by.read by.ended reads0 reads1 writes0 writes1 → HasBegun b.core
     from (inl ok) = whole ok.5
-    from (inr (inl failed)) = whole failed.5
-    from (inr (inr (inl most))) = whole most.5
+    from (inr (inl bad)) = whole bad.5
+    from (inr (inr (inl full))) = whole full.5
     from (inr (inr (inr halted))) =
         let w : IsHalted halted.0 budget b x y (before_exit by.read by.ended) = halted_of halted.0 budget b x y (before_exit by.read by.ended) halted.4 in record { entries = w.entries; grows = w.grows; own = w.own }
 

@@ -2,9 +2,10 @@ ghost use Rattle.std.specs.Prelude.{◌≡◌, ℕ, ◌^◌, ◌++◌, ◌∷◌
 ghost use Rattle.std.specs.List.{All};
 ghost use Rattle.jsh_snippet.specs.declared.acts.Act.TheVariants as act;
 ghost use Rattle.jsh_io.specs.Inputs.{IsEmptyWhereTold};
-ghost use Rattle.jsh_core.specs.History.{Allows, IsLegal};
+ghost use Rattle.jsh_core.specs.Step.{step};
+ghost use Rattle.jsh_core.specs.History.{Allows, IsLegal, state_of};
 ghost use Rattle.jsh_shell.specs.Journal.{entry_of, IsFramed, IsServed};
-ghost use Rattle.jsh_shell.specs.Serving.{IsOpen, TakesLeave, farewell};
+ghost use Rattle.jsh_shell.specs.Serving.{IsOpen, TakesLeave, farewell, is_unheard};
 ghost use Rattle.jsh_shell.specs.Statuses.{memory_short};
 
 use crate::acts::{entry_at, write_shown};
@@ -14,7 +15,7 @@ use crate::session::Session;
 use crate::statuses::{MEMORY_SHORT, WRITE_FAILED};
 use jsh_core::Core;
 use jsh_io::{Sink, Source};
-use jsh_snippet::{Act, Entry};
+use jsh_snippet::{Act, Entry, Reply};
 use jsh_steps::Steps;
 use jsh_text::NoMemory;
 use std::alloc::Global;
@@ -35,6 +36,29 @@ fn close<L: Ledger>(alloc: Global, core: &mut Core, steps: &mut Steps<L>)
     }
 }
 
+/// A client goes.
+fn dismiss<L: Ledger>(alloc: Global, core: &mut Core, client: u32, steps: &mut Steps<L>) -> Reply
+    requires { IsOpen client core.old }
+    ensures reply { result ≡ (step (state_of core.old) (entry_of client act.Leave)).reply }
+    ensures grows { core.new ≡ core.old ++ entry_of client act.Leave ∷ [] }
+{
+    let entry = Entry {
+        client,
+        act: Act::Leave,
+    };
+    match core.apply(alloc, entry, steps) {
+        Ok(reply) => reply,
+        Err(_refused) => unreachable!(),
+    }
+}
+
+/// Whether a client with this status is written no more.
+fn is_unheard(status: u8) -> bool
+    ensures { result ≡ is_unheard status }
+{
+    status == WRITE_FAILED || status == MEMORY_SHORT
+}
+
 /// A client leaves, and is written what is said to that, unless a write has failed or memory was short
 /// before. The answer is its status then.
 #[tactic(none)]
@@ -47,26 +71,20 @@ fn leave<O: Sink, L: Ledger>(
     steps: &mut Steps<L>,
 ) -> u8
     requires { IsOpen client core.old }
-    ensures leaves { core.new ≡ core.old ++ entry_of client act.Leave ∷ [] }
+    ensures grows { core.new ≡ core.old ++ entry_of client act.Leave ∷ [] }
     ensures written { TakesLeave status result (farewell core.old client) (O.held sink.old) (O.held sink.new) (O.faults sink.old) (O.faults sink.new) }
     ensures stream { O.stream sink.new ≡ O.stream sink.old }
 {
     let place = core.len();
-    let entry = Entry {
-        client,
-        act: Act::Leave,
-    };
-    let reply = match core.apply(alloc, entry, steps) {
-        Ok(reply) => reply,
-        Err(_refused) => unreachable!(),
-    };
-    if status == WRITE_FAILED || status == MEMORY_SHORT {
+    let reply = dismiss(alloc, core, client, steps);
+    if is_unheard(status) {
         return status;
     }
     match write_shown(alloc, entry_at(core, place), &reply, sink) {
-        Ok(()) => status,
-        Err(why) => why.status(),
+        Ok(()) => (),
+        Err(why) => return why.status(),
     }
+    status
 }
 
 /// The root enters the first client.

@@ -74,7 +74,7 @@ pub leave-status-requires : goal.leave-status-requires
 leave-status-requires g c = c.serve_pieces-served.ensures.open
 
 pub close-requires-2 : goal.close-requires-2
-close-requires-2 g c = allows-close c.serve_pieces-served.new.session.core c.leave-status.new.core c.serve_pieces-served.ensures.open c.leave-status.ensures.leaves
+close-requires-2 g c = allows-close c.serve_pieces-served.new.session.core c.leave-status.new.core c.serve_pieces-served.ensures.open c.leave-status.ensures.grows
 
 pub push_report-requires : goal.push_report-requires
 push_report-requires g c = c.requires.room
@@ -85,7 +85,7 @@ returns-clause-legal g c = subst (λ (h : List Entry). IsLegal h) (sym (c.report
 pub returns-clause-served : goal.returns-clause-served
 returns-clause-served g c =
     let journal : c.report_without-2.result.journal.items ≡ c.serve_pieces-served.new.session.core ++ entry_of 1 act.Leave ∷ entry_of 0 act.Close ∷ []
-    = c.report_without-2.ensures.journal ∙ c.into_history-2.ensures.items ∙ two-more _ _ _ _ _ c.leave-status.ensures.leaves c.close-2.ensures in
+    = c.report_without-2.ensures.journal ∙ c.into_history-2.ensures.items ∙ two-more _ _ _ _ _ c.leave-status.ensures.grows c.close-2.ensures in
     let by : IsServedBy c.args.budget 1 c.serve_pieces-served.result (record { core = entry_of 0 act.Enter ∷ []; last_turn = 0; cursor = 0 }) c.serve_pieces-served.new.session (g.I.Source.left c.args.source) (g.I.Source.left c.serve_pieces-served.new.source) (g.O.Sink.held c.args.sink) (g.O.Sink.held c.serve_pieces-served.new.sink)
     (g.I.Source.faults c.args.source) (g.I.Source.faults c.serve_pieces-served.new.source) (g.O.Sink.faults c.args.sink) (g.O.Sink.faults c.serve_pieces-served.new.sink)
     = subst (λ (h : List Entry). let first : Session = record { core = h; last_turn = 0; cursor = 0 } in IsServedBy c.args.budget 1 c.serve_pieces-served.result first c.serve_pieces-served.new.session (g.I.Source.left c.args.source) (g.I.Source.left c.serve_pieces-served.new.source) (g.O.Sink.held c.args.sink) (g.O.Sink.held c.serve_pieces-served.new.sink)
@@ -113,7 +113,7 @@ returns-clause-one g c =
 pub returns-clause-framed : goal.returns-clause-framed
 returns-clause-framed g c =
     let journal : c.report_without-2.result.journal.items ≡ c.serve_pieces-served.new.session.core ++ entry_of 1 act.Leave ∷ entry_of 0 act.Close ∷ []
-    = c.report_without-2.ensures.journal ∙ c.into_history-2.ensures.items ∙ two-more _ _ _ _ _ c.leave-status.ensures.leaves c.close-2.ensures in
+    = c.report_without-2.ensures.journal ∙ c.into_history-2.ensures.items ∙ two-more _ _ _ _ _ c.leave-status.ensures.grows c.close-2.ensures in
     let by : IsServedBy c.args.budget 1 c.serve_pieces-served.result (record { core = entry_of 0 act.Enter ∷ []; last_turn = 0; cursor = 0 }) c.serve_pieces-served.new.session (g.I.Source.left c.args.source) (g.I.Source.left c.serve_pieces-served.new.source) (g.O.Sink.held c.args.sink) (g.O.Sink.held c.serve_pieces-served.new.sink)
     (g.I.Source.faults c.args.source) (g.I.Source.faults c.serve_pieces-served.new.source) (g.O.Sink.faults c.args.sink) (g.O.Sink.faults c.serve_pieces-served.new.sink)
     = subst (λ (h : List Entry). let first : Session = record { core = h; last_turn = 0; cursor = 0 } in IsServedBy c.args.budget 1 c.serve_pieces-served.result first c.serve_pieces-served.new.session (g.I.Source.left c.args.source) (g.I.Source.left c.serve_pieces-served.new.source) (g.O.Sink.held c.args.sink) (g.O.Sink.held c.serve_pieces-served.new.sink)
@@ -158,5 +158,5 @@ returns-clause-stream g c =
 pub returns-clause-empty : goal.returns-clause-empty
 returns-clause-empty g c = λ e.
     let journal : c.report_without-2.result.journal.items ≡ c.serve_pieces-served.new.session.core ++ entry_of 1 act.Leave ∷ entry_of 0 act.Close ∷ []
-    = c.report_without-2.ensures.journal ∙ c.into_history-2.ensures.items ∙ two-more _ _ _ _ _ c.leave-status.ensures.leaves c.close-2.ensures in
+    = c.report_without-2.ensures.journal ∙ c.into_history-2.ensures.items ∙ two-more _ _ _ _ _ c.leave-status.ensures.grows c.close-2.ensures in
     absurd (not-empty c.serve_pieces-served.new.session.core _ (sym journal ∙ e))

@@ -9,7 +9,7 @@ use Rattle.jsh_shell.proofs.ServeLemmas.{part-for-memory}
 use Rattle.jsh_shell.proofs.lines.serve_begun.Goals as goal
 
 pub returns-in-Err-clause-err : goal.returns-in-Err-clause-err
-returns-in-Err-clause-err g c = part-for-memory _ _ _ _
+returns-in-Err-clause-err g c = part-for-memory _ _ _ _ _ _
 
 pub returns-in-Err-clause-open : goal.returns-in-Err-clause-open
 returns-in-Err-clause-open g c = c.requires.open

@@ -44,7 +44,7 @@ returns-in-Err-clause-err g c =
     let line : Gives = cut_line c.args.held (as_text c.args.rest.now) in
     subst (λ (cs : List Command). ServesPart c.in-Err.why c.args.budget c.args.client Between c.args.session.now c.serve_line.new.session (g.O.Sink.held c.args.sink.now) (g.O.Sink.held c.serve_line.new.sink) cs)
     (sym (ending-line c.args.held c.args.rest.now (some_there c.args.rest.now c.is_empty.result c.is_empty.ensures c.if-is_empty.false)))
-    (serves-part-more c.in-Err.why _ _ _ _ _ line.commands (closing line) c.in-Err.ensures.err)
+    (serves-part-more c.in-Err.why _ _ _ _ _ _ _ line.commands (closing line) c.in-Err.ensures.err)
 
 pub returns-in-Err-clause-open : goal.returns-in-Err-clause-open
 returns-in-Err-clause-open g c = c.in-Err.ensures.open
@@ -83,7 +83,7 @@ returns-in-Err-serve_held-clause-err g c =
     subst (λ (cs : List Command). ServesPart c.in-Err-serve_held.why c.args.budget c.args.client Between c.args.session.now c.serve_held-2.new.session (g.O.Sink.held c.args.sink.now) (g.O.Sink.held c.serve_held-2.new.sink) cs)
     (sym (ending-line c.args.held c.args.rest.now (some_there c.args.rest.now c.is_empty.result c.is_empty.ensures c.if-is_empty.false)
     ∙ ap (λ (cs : List Command). line.commands ++ cs) (closing-on line on ∙ ap cut_end (sym c.in-Ok.ensures.ok.held))))
-    (serves-part-append c.in-Err-serve_held.why _ _ _ _ _ _ _ line.commands (cut_end c.in-Ok.behind.held) c.in-Ok.ensures.ok.serves c.in-Err-serve_held.ensures.err)
+    (serves-part-append c.in-Err-serve_held.why _ _ _ _ _ _ _ _ _ _ line.commands (cut_end c.in-Ok.behind.held) c.in-Ok.ensures.ok.serves c.in-Err-serve_held.ensures.err)
 
 pub returns-in-Err-serve_held-clause-open : goal.returns-in-Err-serve_held-clause-open
 returns-in-Err-serve_held-clause-open g c = c.in-Err-serve_held.ensures.open
@@ -101,7 +101,7 @@ returns-clause-ok g c =
     subst (λ (cs : List Command). Serves c.args.budget c.args.client Between Between c.args.session.now c.serve_held-2.new.session (g.O.Sink.held c.args.sink.now) (g.O.Sink.held c.serve_held-2.new.sink) cs)
     (sym (ending-line c.args.held c.args.rest.now (some_there c.args.rest.now c.is_empty.result c.is_empty.ensures c.if-is_empty.false)
     ∙ ap (λ (cs : List Command). line.commands ++ cs) (closing-on line on ∙ ap cut_end (sym c.in-Ok.ensures.ok.held))))
-    (serves-append _ _ _ _ _ _ _ line.commands (cut_end c.in-Ok.behind.held) c.in-Ok.ensures.ok.serves c.in-Ok-serve_held.ensures.ok)
+    (serves-append _ _ _ _ _ _ _ _ _ _ _ line.commands (cut_end c.in-Ok.behind.held) c.in-Ok.ensures.ok.serves c.in-Ok-serve_held.ensures.ok)
 
 pub returns-clause-open : goal.returns-clause-open
 returns-clause-open g c = c.in-Ok-serve_held.ensures.open

@@ -16,7 +16,7 @@ use Rattle.jsh_shell.proofs.Servable.{line-servable}
 use Rattle.jsh_shell.proofs.lines.serve_line.Goals as goal
 
 pub returns-in-Err-clause-err : goal.returns-in-Err-clause-err
-returns-in-Err-clause-err g c = part-for-memory _ _ _ _
+returns-in-Err-clause-err g c = part-for-memory _ _ _ _ _ _
 
 pub returns-in-Err-clause-open : goal.returns-in-Err-clause-open
 returns-in-Err-clause-open g c = c.requires.open
@@ -31,7 +31,7 @@ pub cut_line-requires : goal.cut_line-requires
 cut_line-requires g c = omega (arith, c.requires.few, ap length c.as_str.ensures, ap length c.in-Ok.ensures, length-as_text c.args.line.now)
 
 pub returns-in-Err-cut_line-clause-err : goal.returns-in-Err-cut_line-clause-err
-returns-in-Err-cut_line-clause-err g c = part-for-memory _ _ _ _
+returns-in-Err-cut_line-clause-err g c = part-for-memory _ _ _ _ _ _
 
 pub returns-in-Err-cut_line-clause-open : goal.returns-in-Err-cut_line-clause-open
 returns-in-Err-cut_line-clause-open g c = c.requires.open
