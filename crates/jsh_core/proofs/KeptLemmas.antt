@@ -1,5 +1,5 @@
 -- An entry as it is kept does the same, and what stands for the history then stands for the longer one.
-use Rattle.std.proofs.Common.{◌≡◌, ℕ, ◌+◌, ◌<◌, ◌≤◌, ◌==◌, Bool, true, false, List, zero, suc, refl, ap, sym, subst, ◌∙◌, arith, length, vec_capacity}
+use Rattle.std.proofs.Common.{◌≡◌, ℕ, ◌+◌, ◌<◌, ◌≤◌, ◌==◌, Bool, true, false, List, [], zero, suc, refl, ap, sym, subst, ◌∙◌, arith, length, vec_capacity}
 use Rattle.std.specs.Prelude.{if◌then◌else◌}
 use Rattle.std.proofs.Math.Nat.{le_refl}
 use Rattle.jsh_snippet.specs.declared.acts.Act.{Act}
@@ -10,22 +10,23 @@ use Rattle.jsh_snippet.specs.declared.replies.ReplyBody.{ReplyBody}
 use Rattle.jsh_snippet.specs.declared.replies.ReplyBody.TheVariants as body
 use Rattle.jsh_core.specs.declared.log.Log.{Log}
 use Rattle.jsh_core.specs.declared.parts.Parts.{Parts}
-use Rattle.jsh_core.specs.State.{State, Stepped, answer}
+use Rattle.jsh_core.specs.State.{State}
 use Rattle.jsh_core.specs.Threads.{turned, Turned}
 use Rattle.jsh_core.specs.Parts.{state_from}
-use Rattle.jsh_core.specs.Acts.{act_steps, is_last, IsCut, IsDone}
+use Rattle.jsh_core.specs.Acts.{is_last, IsCut}
 use Rattle.jsh_core.specs.Acts.IsCut.{nothing, some}
-use Rattle.jsh_core.specs.Step.{act_step, act_with_steps, kept, kept_act}
+use Rattle.jsh_core.specs.Step.{act_step, act_with_steps, delivered, kept, kept_act}
 use Rattle.jsh_core.specs.History.{Allows}
 use Rattle.jsh_core.specs.Stands.{StandsFor, entry_room}
+use Rattle.jsh_core.proofs.DeliveryLemmas.{IsReplied, replied-body, replied-done}
 use Rattle.jsh_core.proofs.TurnLemmas.{turned-at_most, turned-kept-asked}
 use Rattle.jsh_core.proofs.StandsLemmas.{IsLonger, StandsFor-next, StandsFor-same, Allows-fewer}
 
 -- an act as it is kept does the same
-pub act-kept : (s : State) (client : ℕ) (what : Act) → act_step s client (kept_act what (act_step s client what).reply.body) ≡ act_step s client what
+pub act-kept : (s : State) (client : ℕ) (what : Act) → act_step s client (kept_act what (act_step s client what).body) ≡ act_step s client what
 act-kept s client (act.Turn thread asked) =
-    ap (λ (t : Turned). record { state = record s { world = t.world }; reply = answer (body.Turned t.steps) })
-    (turned-kept-asked s.book thread asked (turned s.book thread asked s.world).steps s.world refl)
+    ap (λ (t : Turned). record { state = record s { world = t.world }; body = body.Turned t.steps })
+    (turned-kept-asked thread asked (turned thread asked s.world).steps s.world refl)
 act-kept s client act.Enter = refl
 act-kept s client (act.Submit source) = refl
 act-kept s client (act.Collect run) = refl
@@ -37,23 +38,19 @@ act-kept s client act.Reset = refl
 act-kept s client act.Leave = refl
 act-kept s client act.Close = refl
 
--- it is one of the last as it was, and has as many steps
-record Alike (what kept : Act) : Type 0 where
-  last : is_last kept ≡ is_last what
-  steps : act_steps kept ≡ act_steps what
-
-alike : (what : Act) (reply : ReplyBody) → Alike what (kept_act what reply)
-alike (act.Turn thread asked) reply = record { last = refl; steps = refl }
-alike act.Enter reply = record { last = refl; steps = refl }
-alike (act.Submit source) reply = record { last = refl; steps = refl }
-alike (act.Collect run) reply = record { last = refl; steps = refl }
-alike (act.Expire run steps) reply = record { last = refl; steps = refl }
-alike (act.Stop run) reply = record { last = refl; steps = refl }
-alike (act.Drop target) reply = record { last = refl; steps = refl }
-alike (act.Ask question) reply = record { last = refl; steps = refl }
-alike act.Reset reply = record { last = refl; steps = refl }
-alike act.Leave reply = record { last = refl; steps = refl }
-alike act.Close reply = record { last = refl; steps = refl }
+-- it is one of the last as it was
+alike : (what : Act) (reply : ReplyBody) → is_last (kept_act what reply) ≡ is_last what
+alike (act.Turn thread asked) reply = refl
+alike act.Enter reply = refl
+alike (act.Submit source) reply = refl
+alike (act.Collect run) reply = refl
+alike (act.Expire run steps) reply = refl
+alike (act.Stop run) reply = refl
+alike (act.Drop target) reply = refl
+alike (act.Ask question) reply = refl
+alike act.Reset reply = refl
+alike act.Leave reply = refl
+alike act.Close reply = refl
 
 -- a turn is kept with at least a step, and no more than were asked for
 kept_within : (asked done : ℕ) → 1 ≤ asked → done ≤ asked → (1 ≤ (if done == 0 then asked else done)) × ((if done == 0 then asked else done) ≤ asked)
@@ -69,11 +66,11 @@ kept_within asked done least within = from (done == 0) refl
 
 -- it is allowed as it was
 allows-kept : (history : List Entry) (s : State) (client : ℕ) (what : Act) → Allows history (record { client = client; act = what }) →
-    Allows history (record { client = client; act = kept_act what (act_step s client what).reply.body })
+    Allows history (record { client = client; act = kept_act what (act_step s client what).body })
 allows-kept history s client (act.Turn thread asked) allowed =
-    let done : ℕ = (turned s.book thread asked s.world).steps in
+    let done : ℕ = (turned thread asked s.world).steps in
     let within : (1 ≤ (if done == 0 then asked else done)) × ((if done == 0 then asked else done) ≤ asked) =
-    kept_within asked done allowed.may.1 (turned-at_most s.book thread asked s.world) in
+    kept_within asked done allowed.may.1 (turned-at_most thread asked s.world) in
     Allows-fewer history client thread asked (if done == 0 then asked else done) allowed within.0 within.1
 allows-kept history s client act.Enter allowed = allowed
 allows-kept history s client (act.Submit source) allowed = allowed
@@ -96,20 +93,20 @@ pub record IsRoomy (log roomy : Log) (what : Act) : Type 0 where
 
 -- an entry that was done and is kept
 pub StandsFor-kept : (log roomy longer : Log) (entry : Entry) (parts after : Parts) (reply : Reply) → StandsFor log parts → Allows log.history.items entry →
-    IsRoomy log roomy entry.act → IsLonger roomy longer (kept entry reply) → IsDone parts after entry.client entry.act reply → StandsFor longer after
+    IsRoomy log roomy entry.act → IsLonger roomy longer (kept entry reply) → IsReplied parts after entry.client entry.act reply → StandsFor longer after
 StandsFor-kept log roomy longer entry parts after reply old allowed roomier more done =
-    let same : reply.body ≡ (act_step (state_from parts) entry.client entry.act).reply.body = ap (λ (s : Stepped). s.reply.body) done.step in
+    let same : reply.body ≡ (act_step (state_from parts) entry.client entry.act).body = replied-body parts after entry.client entry.act reply done in
     let asked : Allows log.history.items (record { client = entry.client; act = entry.act }) =
     record { present = allowed.present; «open» = allowed.open; may = allowed.may } in
     let may : Allows roomy.history.items (record { client = entry.client; act = kept_act entry.act reply.body }) =
     rw (roomier.items, same) (allows-kept log.history.items (state_from parts) entry.client entry.act asked) in
-    let step : act_step (state_from parts) entry.client (kept_act entry.act reply.body) ≡ act_step (state_from parts) entry.client entry.act =
+    let acted : act_step (state_from parts) entry.client (kept_act entry.act reply.body) ≡ act_step (state_from parts) entry.client entry.act =
     rw same (act-kept (state_from parts) entry.client entry.act) in
-    let like : Alike entry.act (kept_act entry.act reply.body) = alike entry.act reply.body in
+    let last : is_last (kept_act entry.act reply.body) ≡ is_last entry.act = alike entry.act reply.body in
     StandsFor-next roomy longer entry.client (kept_act entry.act reply.body) parts after reply
     (StandsFor-same log roomy parts parts old roomier.items roomier.bytes roomier.closed roomier.capacity refl old.sound)
-    may more (record { step = done.step ∙ sym step; sound = done.sound; steps = rw like.steps done.steps })
-    (λ plain. subst (λ (h : List Entry). length h + entry_room ≤ vec_capacity roomy.history) (sym roomier.items) (roomier.room (sym like.last ∙ plain)))
+    may more (record { step = done.step ∙ sym (ap (delivered entry.client) acted); sound = done.sound; within = λ entries h. rw last (done.within entries h) })
+    (λ plain. subst (λ (h : List Entry). length h + entry_room ≤ vec_capacity roomy.history) (sym roomier.items) (roomier.room (sym last ∙ plain)))
 
 -- a turn that was cut short and is kept
 pub StandsFor-cut : (log roomy longer : Log) (entry : Entry) (parts after : Parts) (done : ℕ) → StandsFor log parts → Allows log.history.items entry →
@@ -124,7 +121,8 @@ StandsFor-cut log roomy longer entry parts after done old allowed roomier more p
     rw roomier.items (Allows-fewer log.history.items entry.client thread asked done asks positive less) in
     let longer_by : IsLonger roomy longer (record { client = entry.client; act = act.Turn thread done }) =
     subst (λ (a : Act). IsLonger roomy longer (record { client = entry.client; act = act_with_steps a done })) is more in
-    StandsFor-next roomy longer entry.client (act.Turn thread done) parts after (answer (body.Turned done))
+    let silent : Reply = record { output = []; body = body.Turned done } in
+    StandsFor-next roomy longer entry.client (act.Turn thread done) parts after silent
     (StandsFor-same log roomy parts parts old roomier.items roomier.bytes roomier.closed roomier.capacity refl old.sound)
-    may longer_by whole
+    may longer_by (replied-done parts after after entry.client (act.Turn thread done) (body.Turned done) silent whole refl whole.sound (λ entries h. h))
     (λ plain. subst (λ (h : List Entry). length h + entry_room ≤ vec_capacity roomy.history) (sym roomier.items) (roomier.room (ap is_last is)))

@@ -14,15 +14,15 @@ use Rattle.jsh_snippet.specs.declared.acts.Entry.{Entry}
 use Rattle.jsh_snippet.specs.declared.replies.Reply.{Reply}
 use Rattle.jsh_core.specs.declared.parts.Parts.{Parts}
 use Rattle.jsh_core.specs.declared.log.Log.{Log}
-use Rattle.jsh_core.specs.declared.world.Thread.{Thread}
-use Rattle.jsh_core.specs.Limits.{most_entries, most_steps}
+use Rattle.jsh_core.specs.Limits.{most_entries}
 use Rattle.jsh_core.specs.State.{State, Stepped, opening}
-use Rattle.jsh_core.specs.Parts.{state_from, IsSound, StepsAtMost}
-use Rattle.jsh_core.specs.Acts.{act_steps, is_last, IsDone}
-use Rattle.jsh_core.specs.Step.{act_step, step}
+use Rattle.jsh_core.specs.Parts.{state_from, IsSound, IsWithin}
+use Rattle.jsh_core.specs.Acts.{entries_with, is_last}
+use Rattle.jsh_core.specs.Step.{step}
 use Rattle.jsh_core.specs.History.{state_after, source_bytes, act_bytes, is_close, closed_at, state_of, Allows, MayDo, IsLegalAfter, IsLegal}
 use Rattle.jsh_core.specs.Stands.{StandsFor, entry_room, present_count}
 use Rattle.jsh_core.proofs.Bounds.{StepsAtMost-weaker}
+use Rattle.jsh_core.proofs.DeliveryLemmas.{IsReplied}
 
 pub state_after-more : (s : State) (es : List Entry) (e : Entry) → state_after s (es ++ e ∷ []) ≡ (step (state_after s es) e).state
 state_after-more s [] e = refl
@@ -71,6 +71,24 @@ open_length (x ∷ xs) o = from (closes x) o (open_length xs)
 closed_at-open : (h : List Entry) → list_any closes h ≡ false → closed_at h ≡ None
 closed_at-open h o = rw (open_length h o, le-ltb (length h) (length h) (le_refl (length h))) refl
 
+closed_length : (h : List Entry) → list_any closes h ≡ true → position_or_len closes h < length h
+closed_length [] c = cc
+closed_length (x ∷ xs) c = from (closes x) c (closed_length xs)
+  where
+    from : (b : Bool) → (b || list_any closes xs) ≡ true → (list_any closes xs ≡ true → position_or_len closes xs < length xs) → cond (not b) (1 + position_or_len closes xs) 0 < suc (length xs)
+    from true e h = omega arith
+    from false e h = let below : position_or_len closes xs < length xs = h e in omega (arith, below)
+
+-- a history without a close is open
+pub open-closed_at : (h : List Entry) → closed_at h ≡ None → list_any closes h ≡ false
+open-closed_at h none = from (list_any closes h) refl
+  where
+    from : (b : Bool) → list_any closes h ≡ b → b ≡ false
+    from false e = refl
+    from true e =
+        let some : closed_at h ≡ Some (position_or_len closes h) = rw (lt-ltb (position_or_len closes h) (length h) (closed_length h e)) refl in
+        cc
+
 open_length_more : (h : List Entry) (e : Entry) → list_any closes h ≡ false → position_or_len closes (h ++ e ∷ []) ≡ length h + cond (closes e) 0 1
 open_length_more h e o =
     position_or_len_push closes h e ∙ rw (open_length h o, eqb_same (length h)) refl
@@ -92,6 +110,26 @@ closed_at-more h e o = from (closes e) refl
         let past : length (h ++ e ∷ []) ≤ length h + 1 = simp length-append (omega arith) in
         rw (at false is, le-ltb (length h + 1) (length (h ++ e ∷ [])) past) refl
 
+-- what so many entries can have come to, more entries can have
+pub IsWithin-more : (entries more : ℕ) (p : Parts) → entries ≤ more → IsWithin entries p → IsWithin more p
+IsWithin-more entries more p wide h =
+    let steps : 256 * entries ≤ 256 * more = omega arith in
+    record {
+      generation = omega (arith, h.generation);
+      threads = omega (arith, h.threads);
+      runs = omega (arith, h.runs);
+      steps = StepsAtMost-weaker _ _ _ steps h.steps;
+    }
+
+-- the same of other parts for the same state
+IsWithin-alike : (entries : ℕ) (p q : Parts) → state_from q ≡ state_from p → IsWithin entries p → IsWithin entries q
+IsWithin-alike entries p q alike h = record {
+  generation = rw (ap (λ (s : State). s.generation.number) alike) h.generation;
+  threads = rw (ap (λ (s : State). s.world.threads) alike) h.threads;
+  runs = rw (ap (λ (s : State). s.world.runs) alike) h.runs;
+  steps = rw (ap (λ (s : State). s.world.threads) alike) h.steps;
+}
+
 -- the log with more room, and parts for the same state
 pub StandsFor-same : (log same : Log) (parts after : Parts) → StandsFor log parts → same.history.items ≡ log.history.items → same.bytes ≡ log.bytes →
     same.closed ≡ log.closed → vec_capacity log.history ≤ vec_capacity same.history → state_from after ≡ state_from parts → IsSound after → StandsFor same after
@@ -99,7 +137,7 @@ StandsFor-same log same parts after old items bytes closed wide alike sound = re
   legal = subst (λ (h : List Entry). IsLegal h) (sym items) old.legal;
   state = alike ∙ old.state ∙ sym (ap state_of items);
   sound = sound;
-  steps = rw (items, ap (λ (s : State). s.world.threads) alike) old.steps;
+  within = subst (λ (h : List Entry). IsWithin (min (length h) most_entries) after) (sym items) (IsWithin-alike (min (length log.history.items) most_entries) parts after alike old.within);
   bytes = bytes ∙ old.bytes ∙ sym (ap source_bytes items);
   closed = closed ∙ old.closed ∙ sym (ap closed_at items);
   room = λ none. subst (λ (h : List Entry). length h + present_count after.clients.items + 1 ≤ vec_capacity same.history) (sym items)
@@ -118,39 +156,41 @@ pub record IsLonger (log longer : Log) (entry : Entry) : Type 0 where
   pub bytes : longer.bytes ≡ log.bytes + act_bytes entry.act
   pub closed : longer.closed ≡ (if is_close entry.act then Some (length log.history.items) else log.closed)
 
--- the steps of the threads keep to the bound of the longer history
-steps-more : (history : List Entry) (client : ℕ) (what : Act) (threads : List Thread) → MayDo history client what →
-    StepsAtMost (most_steps * min (length history) most_entries + act_steps what) threads →
-    StepsAtMost (most_steps * min (length (history ++ record { client = client; act = what } ∷ [])) most_entries) threads
-steps-more history client what threads may h = within what may h
+-- the parts keep to what the longer history can have come to
+within-more : (history : List Entry) (client : ℕ) (what : Act) (after : Parts) → MayDo history client what →
+    IsWithin (entries_with (min (length history) most_entries) what) after →
+    IsWithin (min (length (history ++ record { client = client; act = what } ∷ [])) most_entries) after
+within-more history client what after may h = from what may h
   where
-    more : List Entry → List Entry
-    more rest = history ++ rest
+    one_more : (e : Entry) → length history < 4194304 → IsWithin (min (length history) 4194304 + 1) after → IsWithin (min (length (history ++ e ∷ [])) 4194304) after
+    one_more e few h =
+        let long : length (history ++ e ∷ []) ≡ length history + 1 = simp length-append (omega arith) in
+        let wide : min (length history) 4194304 + 1 ≤ min (length (history ++ e ∷ [])) 4194304 = omega arith in
+        IsWithin-more _ _ after wide h
 
-    at_least : (rest : List Entry) → 256 * min (length history) 4194304 + 0 ≤ 256 * min (length (history ++ rest)) 4194304
-    at_least rest = simp length-append (omega arith)
+    none_more : (e : Entry) → IsWithin (min (length history) 4194304) after → IsWithin (min (length (history ++ e ∷ [])) 4194304) after
+    none_more e h =
+        let long : length (history ++ e ∷ []) ≡ length history + 1 = simp length-append (omega arith) in
+        let wide : min (length history) 4194304 ≤ min (length (history ++ e ∷ [])) 4194304 = omega arith in
+        IsWithin-more _ _ after wide h
 
-    within : (what : Act) → MayDo history client what → StepsAtMost (256 * min (length history) 4194304 + act_steps what) threads →
-        StepsAtMost (256 * min (length (history ++ record { client = client; act = what } ∷ [])) 4194304) threads
-    within (act.Turn thread steps) may h =
-        let short : length history < 4194304 = may.0 in
-        let long : length (history ++ record { client = client; act = act.Turn thread steps } ∷ []) ≡ length history + 1 = simp length-append (omega arith) in
-        let wide : 256 * min (length history) 4194304 + 256 ≤ 256 * min (length (history ++ record { client = client; act = act.Turn thread steps } ∷ [])) 4194304 = omega arith in
-        StepsAtMost-weaker _ _ _ wide h
-    within act.Enter may h = StepsAtMost-weaker _ _ _ (at_least _) h
-    within (act.Submit source) may h = StepsAtMost-weaker _ _ _ (at_least _) h
-    within (act.Collect run) may h = StepsAtMost-weaker _ _ _ (at_least _) h
-    within (act.Expire run steps) may h = absurd may
-    within (act.Stop run) may h = absurd may
-    within (act.Drop target) may h = absurd may
-    within (act.Ask question) may h = StepsAtMost-weaker _ _ _ (at_least _) h
-    within act.Reset may h = absurd may
-    within act.Leave may h = StepsAtMost-weaker _ _ _ (at_least _) h
-    within act.Close may h = StepsAtMost-weaker _ _ _ (at_least _) h
+    from : (what : Act) → MayDo history client what → IsWithin (entries_with (min (length history) 4194304) what) after →
+        IsWithin (min (length (history ++ record { client = client; act = what } ∷ [])) 4194304) after
+    from act.Enter may h = one_more _ may h
+    from (act.Submit source) may h = one_more _ may.0 h
+    from (act.Turn thread steps) may h = one_more _ may.0 h
+    from (act.Collect run) may h = one_more _ may h
+    from (act.Expire run steps) may h = one_more _ may h
+    from (act.Stop run) may h = one_more _ may h
+    from (act.Drop target) may h = one_more _ may.0.0 h
+    from (act.Ask question) may h = one_more _ may.0.0 h
+    from act.Reset may h = one_more _ may h
+    from act.Leave may h = none_more _ h
+    from act.Close may h = none_more _ h
 
 -- behind an entry the last ones find room: there is more, or the entry is itself one of them
 room-more : (history : List Entry) (client : ℕ) (what : Act) (capacity wider : ℕ) (before after : State) (close : Option ℕ) →
-    after ≡ (act_step before client what).state → slice_get before.clients client ≡ Some true → length after.clients ≤ 64 →
+    after ≡ (step before (record { client = client; act = what })).state → slice_get before.clients client ≡ Some true → length after.clients ≤ 64 →
     length history + present_count before.clients + 1 ≤ capacity → capacity ≤ wider →
     (is_last what ≡ false → length history + entry_room ≤ wider) →
     (if is_close what then Some (length history) else close) ≡ None →
@@ -165,7 +205,7 @@ room-more history client what capacity wider before after close is there few old
         let long : length (history ++ e ∷ []) ≡ length history + 1 = simp length-append (omega arith) in
         omega (arith, long, present, few, room)
 
-    within : (what : Act) → after ≡ (act_step before client what).state → (is_last what ≡ false → length history + entry_room ≤ wider) →
+    within : (what : Act) → after ≡ (step before (record { client = client; act = what })).state → (is_last what ≡ false → length history + entry_room ≤ wider) →
         (if is_close what then Some (length history) else close) ≡ None → length (history ++ record { client = client; act = what } ∷ []) + present_count after.clients + 1 ≤ wider
     within act.Leave is enough none =
         let long : length (history ++ record { client = client; act = act.Leave } ∷ []) ≡ length history + 1 = simp length-append (omega arith) in
@@ -183,10 +223,10 @@ room-more history client what capacity wider before after close is there few old
     within (act.Ask question) is enough none = roomy _ (enough refl)
     within act.Reset is enough none = roomy _ (enough refl)
 
--- an entry more, whose act was done
+-- an entry more, whose act was done and replied to
 pub StandsFor-next : (log longer : Log) (client : ℕ) (what : Act) (parts after : Parts) (reply : Reply) → StandsFor log parts →
     Allows log.history.items (record { client = client; act = what }) → IsLonger log longer (record { client = client; act = what }) →
-    IsDone parts after client what reply → (is_last what ≡ false → length log.history.items + entry_room ≤ vec_capacity log.history) → StandsFor longer after
+    IsReplied parts after client what reply → (is_last what ≡ false → length log.history.items + entry_room ≤ vec_capacity log.history) → StandsFor longer after
 StandsFor-next log longer client what parts after reply old allowed more done enough =
     let entry : Entry = record { client = client; act = what } in
     let history : List Entry = log.history.items in
@@ -199,8 +239,8 @@ StandsFor-next log longer client what parts after reply old allowed more done en
       legal = subst (λ (h : List Entry). IsLegal h) (sym more.items) (IsLegal-more history entry old.legal allowed);
       state = is ∙ ap (λ (s : State). (step s entry).state) old.state ∙ sym (state_after-more opening history entry) ∙ sym (ap state_of more.items);
       sound = done.sound;
-      steps = subst (λ (h : List Entry). StepsAtMost (most_steps * min (length h) most_entries) after.world.threads.items) (sym more.items)
-          (steps-more history client what after.world.threads.items allowed.may (done.steps _ old.steps));
+      within = subst (λ (h : List Entry). IsWithin (min (length h) most_entries) after) (sym more.items)
+          (within-more history client what after allowed.may (done.within _ old.within));
       bytes = more.bytes ∙ ap (λ n. n + act_bytes what) old.bytes ∙ sym (source_bytes-more history entry) ∙ sym (ap source_bytes more.items);
       closed = more.closed ∙ ap (λ (c : Option ℕ). if is_close what then Some (length history) else c) none ∙ sym (closed_at-more history entry allowed.open) ∙ sym (ap closed_at more.items);
       room = λ later. subst (λ (h : List Entry). length h + present_count after.clients.items + 1 ≤ vec_capacity longer.history) (sym more.items)

@@ -36,6 +36,8 @@ pub record IsSound (p : Parts) : Type 0 where
   pub book : length p.book.items ≤ most_records
   pub clients : length p.clients.items ≤ most_clients
   pub pending : length p.world.pending.items ≡ length p.clients.items
+  -- each declaration in force has a record of its own
+  pub live : length p.generation.live.items ≤ length p.book.items
 
 -- no thread has done more steps than this
 pub record StepsAtMost (bound : ℕ) (threads : List Thread) : Type 0 where

@@ -28,22 +28,27 @@ abbrev pub next : Sum → List Answer → Next
 next sum [] = Sets (value_of sum)
 next sum (first ∷ rest) = Returns (signed_decimal (value_of sum))
 
+-- a frame that is answered once more
+abbrev pub answered : Answer → Frame → Frame
+answered what frame = record frame { answers = frame.answers ++ what ∷ [] }
+
+-- a thread after a step whose answer is empty, for its first frame
+abbrev pub thread_answered : Thread → Frame → List Frame → Thread
+thread_answered thread frame below = record thread { steps = thread.steps + 1; frames = answered «answer».Empty frame ∷ below }
+
+-- a thread after its last step, which returns a text
+abbrev pub thread_returned : Thread → List ℕ → Thread
+thread_returned thread text = record thread { steps = thread.steps + 1; frames = []; end = Some (thread_end.Returned (Some text)) }
+
 -- what a thread does to the world whose first frame does this next, above other frames
 abbrev pub performed : World → ℕ → Thread → Frame → List Frame → Next → World
 performed w number thread frame below (Sets v) = record w {
   cells = set_cell frame.body.variable (value.Int v) w.cells;
-  threads = slice_set w.threads (number - 1) (record thread {
-    steps = thread.steps + 1;
-    frames = record frame { answers = frame.answers ++ «answer».Empty ∷ [] } ∷ below;
-  });
+  threads = slice_set w.threads (number - 1) (thread_answered thread frame below);
 }
 performed w number thread frame below (Returns text) = record w {
   states = slice_set w.states (number - 1) thread_state.Ended;
-  threads = slice_set w.threads (number - 1) (record thread {
-    steps = thread.steps + 1;
-    frames = [];
-    end = Some (thread_end.Returned (Some text));
-  });
+  threads = slice_set w.threads (number - 1) (thread_returned thread text);
 }
 
 abbrev pub frames_step : World → ℕ → Thread → List Frame → World

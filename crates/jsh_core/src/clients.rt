@@ -1,73 +1,47 @@
-ghost use Rattle.std.specs.Prelude.{◌≡◌, ◌<◌, ◌==◌, ◌&&◌, if◌then◌else◌, length, map, IfOk, OnErr};
-ghost use Rattle.std.specs.List.{count_by};
-ghost use Rattle.jsh_sched.specs.declared.ThreadState.TheVariants as thread_state;
-ghost use Rattle.jsh_sched.specs.ThreadState.{is_alive};
-ghost use Rattle.jsh_core.specs.Clients.{enter, leave};
-ghost use Rattle.jsh_core.specs.Runs.{dropped, stopped};
-ghost use Rattle.jsh_core.specs.Parts.{state_from, IsSound};
+//! How clients come and go, and what all of them lose together.
+
+ghost use Rattle.std.specs.Prelude.{◌≡◌, ℕ, ◌+◌, ◌<◌, ◌^◌, length, map, IfOk, OnErr};
+ghost use Rattle.jsh_core.specs.Clients as spec;
+ghost use Rattle.jsh_core.specs.Generations.{emptied};
+ghost use Rattle.jsh_core.specs.Runs.{dropped, dropped_for};
+ghost use Rattle.jsh_core.specs.Parts.{generation_of, state_from, IsSound, IsWithin};
 
 use crate::limits::MOST_CLIENTS;
 use crate::lists::push_reserved;
-use crate::parts::Parts;
-use crate::snippets::{answer_of, refused};
-use crate::world::{Run, Thread};
-use jsh_sched::ThreadState;
-use jsh_snippet::{LimitKind, Refusal, Reply, ReplyBody};
-use jsh_text::NoMemory;
+use crate::parts::{GenerationParts, Parts};
+use crate::stopping::stop_threads;
+use crate::world::Run;
+use jsh_snippet::{LimitKind, Refusal, ReplyBody};
+use jsh_text::{NoMemory, UText};
 use std::alloc::Global;
 
-/// A further client gets the next number.
-pub fn number_client(parts: &mut Parts, alloc: Global) -> Result<Reply, NoMemory>
+/// A further client gets the next number, up to a limit.
+pub fn number_client(parts: &mut Parts, alloc: Global) -> Result<ReplyBody, NoMemory>
     requires sound { IsSound parts.old }
-    ensures ok { IfOk result (λ reply. record { state = state_from parts.new; reply = reply } ≡ enter (state_from parts.old)) }
+    ensures ok { IfOk result (λ answer. record { state = state_from parts.new; body = answer } ≡ spec.enter (state_from parts.old)) }
     ensures err { OnErr result (state_from parts.new ≡ state_from parts.old) }
     ensures sound { IsSound parts.new }
-    ensures threads { parts.new.world.threads ≡ parts.old.world.threads }
+    ensures within { (entries : ℕ) → IsWithin entries parts.old → IsWithin entries parts.new }
 {
     let number = parts.clients.len();
     if number >= MOST_CLIENTS {
-        return Ok(refused(
-            alloc,
-            Refusal::Limit {
-                which: LimitKind::Clients,
-                count: MOST_CLIENTS as u64,
-            },
-        ));
+        return Ok(ReplyBody::Refused(Refusal::Limit {
+            which: LimitKind::Clients,
+            count: MOST_CLIENTS as u64,
+        }));
     }
     parts.clients.reserve(1)?;
+    parts.world.pending.reserve(1)?;
     push_reserved(&mut parts.clients, true);
-    Ok(answer_of(
-        alloc,
-        ReplyBody::Entered {
-            number: number as u32,
-        },
-    ))
+    push_reserved(&mut parts.world.pending, UText::new(alloc));
+    Ok(ReplyBody::Entered {
+        number: number as u32,
+    })
 }
 
-/// The state of a thread after a client's threads are stopped.
-fn stopped_for(client: u32, state: ThreadState, thread: &Thread) -> ThreadState
-    ensures { result ≡ (if is_alive state && (thread.now.owner == client) then thread_state.Stopped else state) }
-{
-    if state.is_alive() && thread.owner == client {
-        ThreadState::Stopped
-    } else {
-        state
-    }
-}
-
-/// Stops a client's threads.
-fn stop_threads(states: &mut [ThreadState], threads: &[Thread], client: u32)
-    requires { length states.old ≡ length threads.now }
-    ensures { states.new ≡ stopped client states.old threads.now }
-{
-    for i in 0..states.len() {
-        states[i] = stopped_for(client, states[i], &threads[i]);
-    }
-}
-
-/// A run after a client's runs are dropped.
-fn dropped_for(client: u32, run: Run) -> Run
-    ensures { result ≡ dropped client run }
+/// A run after the runs of a client are dropped.
+fn dropped_for_client(client: u32, run: Run) -> Run
+    ensures { result ≡ dropped_for client run }
 {
     Run {
         gone: run.gone || run.owner == client,
@@ -75,39 +49,60 @@ fn dropped_for(client: u32, run: Run) -> Run
     }
 }
 
-/// Drops a client's runs.
-fn drop_runs(runs: &mut [Run], client: u32)
-    ensures { runs.new ≡ map (dropped client) runs.old }
+/// The runs of a client are dropped.
+fn drop_runs_of(runs: &mut [Run], client: u32)
+    ensures { runs.new ≡ map (dropped_for client) runs.old }
 {
     for run in runs.iter_mut() {
-        *run = dropped_for(client, *run);
+        *run = dropped_for_client(client, *run);
     }
 }
 
-/// How many threads are alive.
-fn living(states: &[ThreadState]) -> usize
-    ensures { result ≡ count_by is_alive states.now }
+/// Every run is dropped.
+fn drop_runs(runs: &mut [Run])
+    ensures { runs.new ≡ map dropped runs.old }
 {
-    let mut count = 0;
-    for state in states {
-        if state.is_alive() {
-            count += 1;
-        }
+    for run in runs.iter_mut() {
+        run.gone = true;
     }
-    count
 }
 
-/// A client goes.
-pub fn dismiss_client(parts: &mut Parts, alloc: Global, client: u32) -> Reply
+/// A client goes. It takes no memory.
+pub fn dismiss_client(parts: &mut Parts, alloc: Global, client: u32) -> ReplyBody
     requires sound { IsSound parts.old }
     requires there { client < length parts.old.clients.items }
-    ensures ok { record { state = state_from parts.new; reply = result } ≡ leave (state_from parts.old) client }
+    ensures ok { record { state = state_from parts.new; body = result } ≡ spec.leave (state_from parts.old) client }
     ensures sound { IsSound parts.new }
-    ensures threads { parts.new.world.threads ≡ parts.old.world.threads }
+    ensures within { (entries : ℕ) → IsWithin entries parts.old → IsWithin entries parts.new }
 {
-    stop_threads(&mut parts.world.states, &parts.world.threads, client);
-    drop_runs(&mut parts.world.runs, client);
-    parts.world.alive = living(&parts.world.states);
+    stop_threads(&mut parts.world, alloc, Some(client));
+    drop_runs_of(&mut parts.world.runs, client);
     parts.clients[client as usize] = false;
-    answer_of(alloc, ReplyBody::Left)
+    ReplyBody::Left
+}
+
+/// Nothing is in force any more.
+fn empty_generation(generation: &mut GenerationParts, alloc: Global)
+    requires { generation.old.number + 1 < 2 ^ 64 }
+    ensures { generation_of generation.new ≡ emptied (generation_of generation.old) }
+{
+    generation.number += 1;
+    generation.live = Vec::new(alloc);
+}
+
+/// All snippets are taken back. It takes no memory.
+pub fn reset_all(parts: &mut Parts, alloc: Global) -> ReplyBody
+    requires sound { IsSound parts.old }
+    requires few { parts.old.generation.number + 1 < 2 ^ 64 }
+    ensures ok { record { state = state_from parts.new; body = result } ≡ spec.reset (state_from parts.old) }
+    ensures sound { IsSound parts.new }
+    ensures within { (entries : ℕ) → IsWithin entries parts.old → IsWithin (entries + 1) parts.new }
+{
+    let records = parts.book.len() as u32;
+    stop_threads(&mut parts.world, alloc, None);
+    drop_runs(&mut parts.world.runs);
+    empty_generation(&mut parts.generation, alloc);
+    parts.book = Vec::new(alloc);
+    parts.world.cells = Vec::new(alloc);
+    ReplyBody::ResetDone { records }
 }

@@ -1,13 +1,14 @@
 use crate::acts::perform;
+use crate::delivery::deliver;
 use crate::lists::push_reserved;
 use crate::log::{Log, kept_entry, make_room, new_log, push_entry, with_steps};
-use crate::parts::{Parts, WorldParts};
+use crate::parts::{GenerationParts, Parts, WorldParts};
 use crate::runs::view_run;
 use crate::world::RunView;
 use jsh_sched::ThreadState;
 use jsh_snippet::{Entry, Reply};
 use jsh_steps::Steps;
-use jsh_text::NoMemory;
+use jsh_text::{NoMemory, UText};
 use std::alloc::Global;
 use std::marker::Model;
 use std::sync::ledger::Ledger;
@@ -33,7 +34,7 @@ impl Model for Core {
 }
 
 impl Core {
-    ghost use Rattle.std.specs.Prelude.{◌≡◌, ◌↔◌, ℕ, ◌∷◌, ◌++◌, [], length, slice_get, IfOk, IsOk, OnErr};
+    ghost use Rattle.std.specs.Prelude.{◌≡◌, ◌↔◌, ℕ, ◌∷◌, ◌++◌, [], ◌<◌, ◌^◌, length, slice_get, IfOk, IsOk, OnErr};
     ghost use Rattle.std.specs.Option.{option_copied, option_map};
     ghost use Rattle.jsh_snippet.specs.declared.acts.Act.TheVariants as act;
     ghost use Rattle.jsh_core.specs.declared.world.RunView.{RunView};
@@ -51,16 +52,22 @@ impl Core {
         let log = new_log(alloc)?;
         let mut clients = Vec::with_capacity(alloc, 1)?;
         push_reserved(&mut clients, true);
+        let mut pending = Vec::with_capacity(alloc, 1)?;
+        push_reserved(&mut pending, UText::new(alloc));
         Ok(Core {
             log,
             parts: Parts {
                 book: Vec::new(alloc),
-                generation: 0,
+                generation: GenerationParts {
+                    number: 0,
+                    live: Vec::new(alloc),
+                },
                 world: WorldParts {
                     cells: Vec::new(alloc),
                     states: Vec::new(alloc),
                     threads: Vec::new(alloc),
                     runs: Vec::new(alloc),
+                    pending,
                     alive: 0,
                 },
                 clients,
@@ -89,7 +96,8 @@ impl Core {
     {
         make_room(&mut self.log, &entry.act)?;
         match perform(&mut self.parts, alloc, entry.client, &entry.act) {
-            Ok(reply) => {
+            Ok(body) => {
+                let reply = deliver(&mut self.parts, alloc, entry.client, body);
                 push_entry(&mut self.log, kept_entry(entry, &reply));
                 Ok(reply)
             }
@@ -134,7 +142,7 @@ impl Core {
     pub fn run(&self, run: u32) -> Option<RunView>
         ensures view { result ≡ run_view (state_of self.now) run }
 
-        // Whoever it is shown with made it, and has neither collected it nor left since.
+        // Whoever it is shown with made it, and has neither got it handed out nor left since, and nobody has reset all.
         ensures made { (owner : ℕ) → (option_map (λ (view : RunView). view.owner) result ≡ Some owner) ↔ HasRun self.now owner run }
     {
         view_run(&self.parts, run)
@@ -143,6 +151,7 @@ impl Core {
     /// The state of thread i + 1 at place i.
     pub fn states(&self) -> &[ThreadState]
         ensures threads { result.now ≡ (state_of self.now).world.states }
+        ensures few { length result.now < 2 ^ 32 }
     {
         self.parts.world.states.as_slice()
     }

@@ -1,12 +1,13 @@
 ghost use Rattle.std.specs.Prelude.{◌≡◌, ◌+◌, ◌<◌, ◌≤◌, ◌^◌, ◌∷◌, ◌++◌, [], None, Some, true, false, if◌then◌else◌, length, vec_len, vec_capacity, IfOk, IsOk, OnOk};
 ghost use Rattle.jsh_core.specs.Acts.{is_last};
-ghost use Rattle.jsh_core.specs.History.{act_bytes, is_close};
+ghost use Rattle.jsh_core.specs.History.{act_bytes, is_close, target_text};
+ghost use Rattle.jsh_core.specs.Questions.{question_text};
 ghost use Rattle.jsh_core.specs.Stands.{entry_room};
 ghost use Rattle.jsh_core.specs.Step.{act_with_steps, kept};
 
 use crate::limits::MOST_CLIENTS;
 use crate::lists::push_reserved;
-use jsh_snippet::{Act, Entry, Question, Reply, ReplyBody};
+use jsh_snippet::{Act, Entry, Question, Reply, ReplyBody, Target};
 use jsh_text::NoMemory;
 use std::alloc::Global;
 
@@ -62,15 +63,33 @@ pub fn make_room(log: &mut Log, act: &Act) -> Result<(), NoMemory>
     Ok(())
 }
 
-/// The bytes of source that an act has, those of a question's text among them.
-fn act_bytes(act: &Act) -> u64
+/// The bytes of source that an act has, those of a name and of a question's text among them.
+pub fn act_bytes(act: &Act) -> u64
     ensures { result ≡ act_bytes act.now }
 {
     match act {
         Act::Submit { source } => source.as_str().len() as u64,
-        Act::Ask {
-            question: Question::Invalid(line),
-        } => line.as_str().len() as u64,
+        Act::Drop { target } => target_bytes(target),
+        Act::Ask { question } => question_bytes(question),
+        _ => 0,
+    }
+}
+
+fn target_bytes(target: &Target) -> u64
+    ensures { result ≡ length (target_text target.now) }
+{
+    match target {
+        Target::Id(_) => 0,
+        Target::Named(name) => name.as_str().len() as u64,
+    }
+}
+
+fn question_bytes(question: &Question) -> u64
+    ensures { result ≡ length (question_text question.now) }
+{
+    match question {
+        Question::Complete(text) => text.as_str().len() as u64,
+        Question::Invalid(line) => line.as_str().len() as u64,
         _ => 0,
     }
 }

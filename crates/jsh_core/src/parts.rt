@@ -1,14 +1,17 @@
-ghost use Rattle.std.specs.Prelude.{◌≡◌, ◌+◌, ◌<◌, ◌∷◌, ◌++◌, [], pos, false, None, Some, OnOk, vec_len, vec_capacity};
-ghost use Rattle.jsh_text.specs.declared.value.Value.TheVariants as value;
-ghost use Rattle.jsh_sched.specs.declared.ThreadState.TheVariants as thread_state;
-ghost use Rattle.jsh_core.specs.Limits.{most_threads};
-ghost use Rattle.jsh_core.specs.Parts.{world_of};
+ghost use Rattle.std.specs.Prelude.{◌≡◌, ◌+◌, ◌<◌, ◌≤◌, ◌^◌, ◌++◌, length, option_map, IsSome, OnOk, Option, vec_len, vec_capacity};
+ghost use Rattle.std.specs.Option.{option_to_list};
+ghost use Rattle.jsh_core.specs.declared.world.Body.{Body};
+ghost use Rattle.jsh_core.specs.declared.world.Thread.{Thread};
+ghost use Rattle.jsh_core.specs.Limits.{most_entries, most_threads};
+ghost use Rattle.jsh_core.specs.Parts.{generation_of, state_from, world_of, IsWorld};
+ghost use Rattle.jsh_core.specs.Snippets.{main_thread, next_generation, with_run_of};
 
+use crate::generation::Live;
 use crate::lists::push_reserved;
-use crate::world::{Frame, Run, Thread};
+use crate::world::{Cell, Run, Thread};
 use jsh_sched::ThreadState;
 use jsh_snippet::Record;
-use jsh_text::{NoMemory, Value};
+use jsh_text::{NoMemory, UText};
 
 /// What the one-thread engine keeps beside its history.
 #[derive(Drop)]
@@ -44,56 +47,80 @@ pub struct WorldParts {
     pub alive: usize,
 }
 
-/// Room for a run, its thread and its variable.
-pub fn reserve_run(world: &mut WorldParts) -> Result<(), NoMemory>
-    ensures same { world_of world.new ≡ world_of world.old }
-    ensures alive { world.new.alive ≡ world.old.alive }
-    ensures cells { OnOk result (vec_len world.new.cells < vec_capacity world.new.cells) }
-    ensures states { OnOk result (vec_len world.new.states < vec_capacity world.new.states) }
-    ensures threads { OnOk result (vec_len world.new.threads < vec_capacity world.new.threads) }
-    ensures runs { OnOk result (vec_len world.new.runs < vec_capacity world.new.runs) }
+/// Room for a snippet and all that it may make.
+pub fn reserve_snippet(parts: &mut Parts) -> Result<(), NoMemory>
+    ensures same { state_from parts.new ≡ state_from parts.old }
+    ensures alive { parts.new.world.alive ≡ parts.old.world.alive }
+    ensures book { OnOk result (vec_len parts.new.book < vec_capacity parts.new.book) }
+    ensures live { OnOk result (vec_len parts.new.generation.live < vec_capacity parts.new.generation.live) }
+    ensures cells { OnOk result (vec_len parts.new.world.cells < vec_capacity parts.new.world.cells) }
+    ensures states { OnOk result (vec_len parts.new.world.states < vec_capacity parts.new.world.states) }
+    ensures threads { OnOk result (vec_len parts.new.world.threads < vec_capacity parts.new.world.threads) }
+    ensures runs { OnOk result (vec_len parts.new.world.runs < vec_capacity parts.new.world.runs) }
 {
-    world.cells.reserve(1)?;
-    world.states.reserve(1)?;
-    world.threads.reserve(1)?;
-    world.runs.reserve(1)?;
+    parts.book.reserve(1)?;
+    parts.generation.live.reserve(1)?;
+    parts.world.cells.reserve(1)?;
+    parts.world.states.reserve(1)?;
+    parts.world.threads.reserve(1)?;
+    parts.world.runs.reserve(1)?;
     Ok(())
 }
 
-/// A run of a client's snippet with this main thread, and a variable at its default value. There is
-/// room for them.
-pub fn add_run(world: &mut WorldParts, client: u32, snippet: u32, main: u32)
-    requires cells { vec_len world.old.cells < vec_capacity world.old.cells }
+/// The next generation has a declaration more, where there is one. There is room for it.
+pub fn add_live(generation: &mut GenerationParts, live: Option<Live>)
+    requires room { vec_len generation.old.live < vec_capacity generation.old.live }
+    requires few { generation.old.number + 1 < 2 ^ 64 }
+    ensures after { generation_of generation.new ≡ next_generation (generation_of generation.old) live }
+    ensures number { generation.new.number ≤ generation.old.number + 1 }
+{
+    if let Some(live) = live {
+        generation.number += 1;
+        push_reserved(&mut generation.live, live);
+    }
+}
+
+/// A variable stands behind the others, where one is made. There is room for it.
+pub fn add_cell(cells: &mut Vec<Cell>, made: Option<Cell>)
+    requires { vec_len cells.old < vec_capacity cells.old }
+    ensures { cells.new.items ≡ cells.old.items ++ option_to_list made }
+{
+    if let Some(cell) = made {
+        push_reserved(cells, cell);
+    }
+}
+
+/// A run of a client's snippet, where a thread is to evaluate it, and the number of the run. There is
+/// room for it.
+pub fn add_run(
+    world: &mut WorldParts,
+    client: u32,
+    snippet: u32,
+    thread: Option<Thread>,
+) -> Option<u32>
     requires states { vec_len world.old.states < vec_capacity world.old.states }
     requires threads { vec_len world.old.threads < vec_capacity world.old.threads }
     requires runs { vec_len world.old.runs < vec_capacity world.old.runs }
-    requires few { world.old.alive < most_threads }
-    ensures after { world_of world.new ≡ record {
-      cells = world.old.cells.items ++ Some (value.Int (pos 0)) ∷ [];
-      states = world.old.states.items ++ thread_state.Ready ∷ [];
-      threads = world.old.threads.items ++ record { owner = client; steps = 0; frame = Some (record { snippet = snippet; answers = 0 }); returned = None } ∷ [];
-      runs = world.old.runs.items ++ record { owner = client; main = main; snippet = snippet; gone = false } ∷ [];
-    } }
-    ensures alive { world.new.alive ≡ world.old.alive + 1 }
+    requires alive { IsSome thread → world.old.alive < most_threads }
+    requires few_threads { length world.old.threads.items ≤ most_entries }
+    requires few_runs { length world.old.runs.items ≤ most_entries }
+    ensures after { (what : Option Body) → thread ≡ option_map (main_thread client) what → world_of world.new ≡ with_run_of (world_of world.old) client snippet what }
+    ensures number { result ≡ option_map (λ (started : Thread). length world.old.runs.items + 1) thread }
+    ensures sound { IsWorld world.old → IsWorld world.new }
 {
-    push_reserved(&mut world.cells, Some(Value::Int(0)));
+    let thread = thread?;
+    let main = world.threads.len() as u32 + 1;
+    let number = world.runs.len() as u32 + 1;
     push_reserved(&mut world.states, ThreadState::Ready);
-    let thread = Thread {
-        owner: client,
-        steps: 0,
-        frame: Some(Frame {
-            snippet,
-            answers: 0,
-        }),
-        returned: None,
-    };
     push_reserved(&mut world.threads, thread);
     let run = Run {
         owner: client,
         main,
         snippet,
+        stopper: None,
         gone: false,
     };
     push_reserved(&mut world.runs, run);
     world.alive += 1;
+    Some(number)
 }

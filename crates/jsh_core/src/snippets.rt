@@ -1,20 +1,25 @@
-ghost use Rattle.std.specs.Prelude.{◌≡◌, ℕ, ◌+◌, ◌∷◌, [], ◌<◌, ◌^◌, length, codes, Some, IfOk, OnErr};
+ghost use Rattle.std.specs.Prelude.{◌≡◌, ℕ, List, ◌+◌, ◌∷◌, [], ◌<◌, ◌≤◌, ◌^◌, length, option_map, IfOk, IsSome, OnErr};
 ghost use Rattle.std.specs.Str.{IsUtf8};
-ghost use Rattle.jsh_verdict.specs.Verdict.{tree_of};
-ghost use Rattle.jsh_core.specs.Limits.{most_records, most_threads};
-ghost use Rattle.jsh_core.specs.State.{answer};
-ghost use Rattle.jsh_core.specs.Snippets.{accepted, accepted_event, accepted_record, accepted_reply, rejected, rejected_event, rejected_record, rejected_reply, submitted, temporary_name};
-ghost use Rattle.jsh_core.specs.Parts.{state_from, IsSound, StepsAtMost};
 ghost use Rattle.jsh_snippet.specs.declared.replies.ReplyBody.TheVariants as body;
+ghost use Rattle.jsh_snippet.specs.declared.replies.Refusal.TheVariants as refusal;
+ghost use Rattle.jsh_snippet.specs.Keys.{temporary_name};
+ghost use Rattle.jsh_verdict.specs.Verdict.{tree_of};
+ghost use Rattle.jsh_core.specs.Limits.{most_entries, most_records, most_threads};
+ghost use Rattle.jsh_core.specs.Snippets as spec;
+ghost use Rattle.jsh_core.specs.Snippets.{submitted, temporary_key};
+ghost use Rattle.jsh_core.specs.Parts.{generation_of, state_from, IsSound, IsWithin, IsWorld};
 
+use crate::generation::{Live, Plan};
 use crate::limits::{MOST_RECORDS, MOST_THREADS};
 use crate::lists::push_reserved;
-use crate::parts::{Parts, add_run, reserve_run};
+use crate::parts::{GenerationParts, Parts, add_cell, add_live, add_run, reserve_snippet};
+use crate::world::{Body, Cell, Frame, Thread};
 use jsh_snippet::{
-    Event, Fate, Kind, LimitKind, Record, Refusal, Reply, ReplyBody, Status, Subkind, Submitted,
+    Event, Fate, Kind, LimitKind, Record, Refusal, ReplyBody, Status, Subkind, Submitted,
 };
-use jsh_text::{NoMemory, UText, print_unsigned};
-use jsh_tree::{Diagnostic, Name, Seq, SrcText, Tree, TypeWritten};
+use jsh_sum::Sum;
+use jsh_text::{NoMemory, UText, Value, print_unsigned};
+use jsh_tree::{Diagnostic, Key, Link, Name, Seq, SrcText, Tree, TypeWritten};
 use jsh_verdict::{Judged, Verdict, judge};
 use std::alloc::Global;
 
@@ -28,22 +33,6 @@ pub fn temporary_name_of(alloc: Global, id: u32) -> Result<UText, NoMemory>
     Ok(name)
 }
 
-/// An answer to a client whose threads have printed nothing.
-pub fn answer_of(alloc: Global, body: ReplyBody) -> Reply
-    ensures { result ≡ answer body }
-{
-    Reply {
-        output: UText::new(alloc),
-        body,
-    }
-}
-
-pub fn refused(alloc: Global, refusal: Refusal) -> Reply
-    ensures { result ≡ answer (body.Refused refusal) }
-{
-    answer_of(alloc, ReplyBody::Refused(refusal))
-}
-
 /// A list of one item.
 pub fn one<T: Drop>(alloc: Global, item: T) -> Result<Seq<T>, NoMemory>
     ensures { IfOk result (λ seq. seq ≡ item ∷ []) }
@@ -53,6 +42,27 @@ pub fn one<T: Drop>(alloc: Global, item: T) -> Result<Seq<T>, NoMemory>
     Ok(Seq::from_vec(items))
 }
 
+fn new_temporary_key(alloc: Global, id: u32) -> Result<Key, NoMemory>
+    ensures { IfOk result (λ key. key ≡ temporary_key id) }
+{
+    let text = format!(in alloc; "${id}")?;
+    Ok(Key::OfVar(Name::from_text(alloc, text.as_str())?))
+}
+
+fn new_temporary_link(
+    alloc: Global,
+    generation: &GenerationParts,
+    id: u32,
+) -> Result<Link, NoMemory>
+    requires { generation.now.number + 1 < 2 ^ 64 }
+    ensures { IfOk result (λ link. link ≡ spec.new_link (generation_of generation.now) id) }
+{
+    Ok(Link {
+        key: new_temporary_key(alloc, id)?,
+        generation: generation.number + 1,
+    })
+}
+
 fn new_accepted_record(
     alloc: Global,
     id: u32,
@@ -60,7 +70,7 @@ fn new_accepted_record(
     tree: Option<Tree>,
 ) -> Result<Record, NoMemory>
     requires { tree ≡ tree_of source.now }
-    ensures { IfOk result (λ new. new ≡ accepted_record id source.now) }
+    ensures { IfOk result (λ new. new ≡ spec.accepted_record id source.now) }
 {
     let name = Name::from_text(alloc, "int")?;
     Ok(Record {
@@ -75,7 +85,7 @@ fn new_accepted_record(
 
 fn new_rejected_record(id: u32, source: &SrcText, tree: Option<Tree>) -> Result<Record, NoMemory>
     requires { tree ≡ tree_of source.now }
-    ensures { IfOk result (λ new. new ≡ rejected_record id source.now) }
+    ensures { IfOk result (λ new. new ≡ spec.rejected_record id source.now) }
 {
     Ok(Record {
         id,
@@ -88,7 +98,7 @@ fn new_rejected_record(id: u32, source: &SrcText, tree: Option<Tree>) -> Result<
 }
 
 fn new_accepted_event(alloc: Global, id: u32) -> Result<Event, NoMemory>
-    ensures { IfOk result (λ event. event ≡ accepted_event id) }
+    ensures { IfOk result (λ event. event ≡ spec.accepted_event id) }
 {
     let name = temporary_name_of(alloc, id)?;
     let default = UText::from_latin1(alloc, b"0")?;
@@ -104,7 +114,7 @@ fn new_accepted_event(alloc: Global, id: u32) -> Result<Event, NoMemory>
 }
 
 fn new_rejected_event(alloc: Global, id: u32) -> Event
-    ensures { result ≡ rejected_event id }
+    ensures { result ≡ spec.rejected_event id }
 {
     Event {
         id,
@@ -117,98 +127,225 @@ fn new_rejected_event(alloc: Global, id: u32) -> Event
     }
 }
 
-fn new_accepted_reply(alloc: Global, id: u32, run: u32) -> Result<Submitted, NoMemory>
-    ensures { IfOk result (λ reply. reply ≡ accepted_reply id run) }
+/// What a sum comes to.
+fn plan_accepted(
+    alloc: Global,
+    generation: &GenerationParts,
+    snippet: Record,
+    sum: Sum,
+) -> Result<Plan, NoMemory>
+    requires { generation.now.number + 1 < 2 ^ 64 }
+    ensures { IfOk result (λ plan. (source : List ℕ) → snippet ≡ spec.accepted_record snippet.id source → plan ≡ spec.accepted_plan (generation_of generation.now) snippet.id source sum) }
 {
-    let name = temporary_name_of(alloc, id)?;
-    let event = new_accepted_event(alloc, id)?;
-    Ok(Submitted {
+    let id = snippet.id;
+    let live = Live {
         id,
+        key: new_temporary_key(alloc, id)?,
+        status: Status::Valid,
+        given: Some(generation.number + 1),
+    };
+    let made = Cell {
+        link: new_temporary_link(alloc, generation, id)?,
+        value: Value::Int(0),
+    };
+    let body = Body {
+        variable: new_temporary_link(alloc, generation, id)?,
+        sum,
+    };
+    Ok(Plan {
+        snippet,
+        live: Some(live),
+        made: Some(made),
+        run: Some(body),
         kind: Kind::Var,
         subkind: Subkind::TempVarExpression,
-        name,
-        events: one(alloc, event)?,
+        name: temporary_name_of(alloc, id)?,
+        events: one(alloc, new_accepted_event(alloc, id)?)?,
         ignored: Seq::new(alloc),
         diagnostics: Seq::new(alloc),
         unresolved: Seq::new(alloc),
-        run: Some(run),
         value: None,
     })
 }
 
-fn new_rejected_reply(
+/// What a source comes to that is no sum.
+fn plan_rejected(
     alloc: Global,
-    id: u32,
+    snippet: Record,
     diagnostics: Seq<Diagnostic>,
-) -> Result<Submitted, NoMemory>
-    ensures { IfOk result (λ reply. reply ≡ rejected_reply id diagnostics) }
+) -> Result<Plan, NoMemory>
+    ensures { IfOk result (λ plan. (source : List ℕ) → snippet ≡ spec.rejected_record snippet.id source → plan ≡ spec.rejected_plan snippet.id source diagnostics) }
 {
-    Ok(Submitted {
-        id,
+    let event = new_rejected_event(alloc, snippet.id);
+    Ok(Plan {
+        snippet,
+        live: None,
+        made: None,
+        run: None,
         kind: Kind::Erroneous,
         subkind: Subkind::Unknown,
         name: UText::new(alloc),
-        events: one(alloc, new_rejected_event(alloc, id))?,
+        events: one(alloc, event)?,
         ignored: Seq::new(alloc),
         diagnostics,
         unresolved: Seq::new(alloc),
-        run: None,
         value: None,
     })
 }
 
-fn reject(
-    parts: &mut Parts,
+/// What a source comes to that is handed in on this generation as the snippet with this number.
+fn plan_snippet(
     alloc: Global,
+    generation: &GenerationParts,
+    id: u32,
     source: &SrcText,
-    tree: Option<Tree>,
-    diagnostics: Seq<Diagnostic>,
-) -> Result<Reply, NoMemory>
-    requires tree { tree ≡ tree_of source.now }
-    requires sound { IsSound parts.old }
-    requires room { length parts.old.book.items < most_records }
-    ensures ok { IfOk result (λ reply. record { state = state_from parts.new; reply = reply } ≡ rejected (state_from parts.old) source.now diagnostics) }
-    ensures err { OnErr result (state_from parts.new ≡ state_from parts.old) }
-    ensures sound { IsSound parts.new }
-    ensures steps { (bound : ℕ) → StepsAtMost bound parts.old.world.threads.items → StepsAtMost bound parts.new.world.threads.items }
+) -> Result<Plan, NoMemory>
+    requires few { generation.now.number + 1 < 2 ^ 64 }
+    requires short { length source.now < 2 ^ 32 }
+    ensures { IfOk result (λ plan. plan ≡ spec.planned (generation_of generation.now) id source.now) }
 {
-    let id = parts.book.len() as u32 + 1;
-    let record = new_rejected_record(id, source, tree)?;
-    let reply = new_rejected_reply(alloc, id, diagnostics)?;
-    parts.book.reserve(1)?;
-    parts.world.cells.reserve(1)?;
-    push_reserved(&mut parts.book, record);
-    push_reserved(&mut parts.world.cells, None);
-    Ok(answer_of(alloc, ReplyBody::Submitted(reply)))
+    let Judged { tree, verdict } = judge(alloc, source.as_str())?;
+    match verdict {
+        Verdict::Accepted(sum) => {
+            let snippet = new_accepted_record(alloc, id, source, tree)?;
+            plan_accepted(alloc, generation, snippet, sum)
+        }
+        Verdict::Rejected(diagnostics) => {
+            let snippet = new_rejected_record(id, source, tree)?;
+            plan_rejected(alloc, snippet, diagnostics)
+        }
+    }
 }
 
-fn accept(
+/// A thread of this client that is to evaluate this.
+fn new_main_thread(alloc: Global, owner: u32, body: Body) -> Result<Thread, NoMemory>
+    ensures { IfOk result (λ thread. thread ≡ spec.main_thread owner body) }
+{
+    let frame = Frame {
+        body,
+        args: Seq::new(alloc),
+        answers: Seq::new(alloc),
+    };
+    Ok(Thread {
+        owner,
+        steps: 0,
+        frames: one(alloc, frame)?,
+        end: None,
+    })
+}
+
+/// The thread of a client's snippet, where there is something to evaluate.
+fn new_thread_for(
+    alloc: Global,
+    owner: u32,
+    run: Option<Body>,
+) -> Result<Option<Thread>, NoMemory>
+    ensures { IfOk result (λ thread. thread ≡ option_map (spec.main_thread owner) run) }
+{
+    match run {
+        None => Ok(None),
+        Some(body) => Ok(Some(new_main_thread(alloc, owner, body)?)),
+    }
+}
+
+/// A limit is reached.
+fn limited(which: LimitKind, count: u64) -> ReplyBody
+    ensures { result ≡ body.Refused (refusal.Limit which count) }
+{
+    ReplyBody::Refused(Refusal::Limit { which, count })
+}
+
+/// What a snippet of a client comes to is put beside what is kept.
+fn add_snippet(
     parts: &mut Parts,
     alloc: Global,
     client: u32,
-    source: &SrcText,
-    tree: Option<Tree>,
-) -> Result<Reply, NoMemory>
-    requires tree { tree ≡ tree_of source.now }
+    plan: Plan,
+) -> Result<ReplyBody, NoMemory>
     requires sound { IsSound parts.old }
+    requires within { IsWithin most_entries parts.old }
     requires room { length parts.old.book.items < most_records }
-    requires few { parts.old.world.alive < most_threads }
-    ensures ok { IfOk result (λ reply. record { state = state_from parts.new; reply = reply } ≡ accepted (state_from parts.old) client source.now) }
+    requires alive { IsSome plan.run → parts.old.world.alive < most_threads }
+    ensures ok { IfOk result (λ body. record { state = state_from parts.new; body = body } ≡ spec.published (state_from parts.old) client plan) }
+    ensures err { OnErr result (state_from parts.new ≡ state_from parts.old) }
+    ensures world { IsWorld parts.new.world }
+{
+    let Plan {
+        snippet,
+        live,
+        made,
+        run,
+        kind,
+        subkind,
+        name,
+        events,
+        ignored,
+        diagnostics,
+        unresolved,
+        value,
+    } = plan;
+    let id = snippet.id;
+    let thread = new_thread_for(alloc, client, run)?;
+    reserve_snippet(parts)?;
+    push_reserved(&mut parts.book, snippet);
+    add_live(&mut parts.generation, live);
+    add_cell(&mut parts.world.cells, made);
+    let run = add_run(&mut parts.world, client, id, thread);
+    Ok(ReplyBody::Submitted(Submitted {
+        id,
+        kind,
+        subkind,
+        name,
+        events,
+        ignored,
+        diagnostics,
+        unresolved,
+        run,
+        value,
+    }))
+}
+
+/// A snippet of a client stands.
+fn publish(
+    parts: &mut Parts,
+    alloc: Global,
+    client: u32,
+    plan: Plan,
+) -> Result<ReplyBody, NoMemory>
+    requires sound { IsSound parts.old }
+    requires within { IsWithin most_entries parts.old }
+    requires room { length parts.old.book.items < most_records }
+    requires alive { IsSome plan.run → parts.old.world.alive < most_threads }
+    ensures ok { IfOk result (λ body. record { state = state_from parts.new; body = body } ≡ spec.published (state_from parts.old) client plan) }
     ensures err { OnErr result (state_from parts.new ≡ state_from parts.old) }
     ensures sound { IsSound parts.new }
-    ensures steps { (bound : ℕ) → StepsAtMost bound parts.old.world.threads.items → StepsAtMost bound parts.new.world.threads.items }
+    ensures within { (entries : ℕ) → IsWithin entries parts.old → IsWithin (entries + 1) parts.new }
 {
-    let id = parts.book.len() as u32 + 1;
-    let main = parts.world.threads.len() as u32 + 1;
-    let run = parts.world.runs.len() as u32 + 1;
-    let entered = new_accepted_record(alloc, id, source, tree)?;
-    let reply = new_accepted_reply(alloc, id, run)?;
-    parts.book.reserve(1)?;
-    reserve_run(&mut parts.world)?;
-    push_reserved(&mut parts.book, entered);
-    parts.generation += 1;
-    add_run(&mut parts.world, client, id, main);
-    Ok(answer_of(alloc, ReplyBody::Submitted(reply)))
+    add_snippet(parts, alloc, client, plan)
+}
+
+/// A snippet of a client stands, where there may be a thread more or it wants none.
+fn publish_below_limit(
+    parts: &mut Parts,
+    alloc: Global,
+    client: u32,
+    plan: Plan,
+) -> Result<ReplyBody, NoMemory>
+    requires sound { IsSound parts.old }
+    requires within { IsWithin most_entries parts.old }
+    requires room { length parts.old.book.items < most_records }
+    ensures ok { IfOk result (λ body. record { state = state_from parts.new; body = body } ≡ spec.published_below_limit (state_from parts.old) client plan) }
+    ensures err { OnErr result (state_from parts.new ≡ state_from parts.old) }
+    ensures sound { IsSound parts.new }
+    ensures within { (entries : ℕ) → IsWithin entries parts.old → IsWithin (entries + 1) parts.new }
+{
+    if plan.run.is_none() {
+        return publish(parts, alloc, client, plan);
+    }
+    if parts.world.alive >= MOST_THREADS {
+        return Ok(limited(LimitKind::Threads, MOST_THREADS as u64));
+    }
+    publish(parts, alloc, client, plan)
 }
 
 /// A snippet is handed in.
@@ -217,39 +354,21 @@ pub fn submit(
     alloc: Global,
     client: u32,
     source: &SrcText,
-) -> Result<Reply, NoMemory>
+) -> Result<ReplyBody, NoMemory>
     requires sound { IsSound parts.old }
+    requires within { IsWithin most_entries parts.old }
     requires short { length source.now < 2 ^ 32 }
     ensures utf8 { IsUtf8 source.now }
-    ensures ok { IfOk result (λ reply. record { state = state_from parts.new; reply = reply } ≡ submitted (state_from parts.old) client source.now) }
+    ensures ok { IfOk result (λ body. record { state = state_from parts.new; body = body } ≡ submitted (state_from parts.old) client source.now) }
     ensures err { OnErr result (state_from parts.new ≡ state_from parts.old) }
     ensures sound { IsSound parts.new }
-    ensures steps { (bound : ℕ) → StepsAtMost bound parts.old.world.threads.items → StepsAtMost bound parts.new.world.threads.items }
+    ensures within { (entries : ℕ) → IsWithin entries parts.old → IsWithin (entries + 1) parts.new }
 {
-    let text = source.as_str();
+    let _text = source.as_str();
     if parts.book.len() >= MOST_RECORDS {
-        return Ok(refused(
-            alloc,
-            Refusal::Limit {
-                which: LimitKind::Records,
-                count: MOST_RECORDS as u64,
-            },
-        ));
+        return Ok(limited(LimitKind::Records, MOST_RECORDS as u64));
     }
-    let Judged { tree, verdict } = judge(alloc, text)?;
-    match verdict {
-        Verdict::Rejected(diagnostics) => reject(parts, alloc, source, tree, diagnostics),
-        Verdict::Accepted(_) => {
-            if parts.world.alive >= MOST_THREADS {
-                return Ok(refused(
-                    alloc,
-                    Refusal::Limit {
-                        which: LimitKind::Threads,
-                        count: MOST_THREADS as u64,
-                    },
-                ));
-            }
-            accept(parts, alloc, client, source, tree)
-        }
-    }
+    let id = parts.book.len() as u32 + 1;
+    let plan = plan_snippet(alloc, &parts.generation, id, source)?;
+    publish_below_limit(parts, alloc, client, plan)
 }

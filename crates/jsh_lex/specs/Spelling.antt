@@ -5,6 +5,7 @@ use Rattle.std.specs.List.{list_all}
 use Rattle.std.specs.Str.{chars, IsCharBoundary}
 use Rattle.jsh_tree.specs.declared.token.Token.{Token}
 use Rattle.jsh_tree.specs.declared.token.TokenKind.{TokenKind}
+use Rattle.jsh_tree.specs.declared.token.TokenKind.TheVariants.{Identifier}
 use Rattle.jsh_lex.specs.declared.lexeme.Lexeme.TheVariants.{Spelled}
 use Rattle.jsh_lex.specs.Chars.{is_identifier_start, is_identifier_part, is_line_end}
 use Rattle.jsh_lex.specs.Literal.{escapes_next, string, character}
@@ -15,6 +16,14 @@ use Rattle.jsh_lex.specs.Table.{operators, word_kind}
 abbrev pub is_word : List ℕ → Bool
 is_word [] = false
 is_word (c ∷ cs) = is_identifier_start c && list_all is_identifier_part cs
+
+abbrev pub is_identifier_kind : TokenKind → Bool
+is_identifier_kind Identifier = true
+is_identifier_kind _ = false
+
+-- the text, in UTF-8, is an identifier: a word that isn't reserved (JLS 3.8)
+unfoldable pub is_identifier : List ℕ → Bool
+is_identifier text = is_word (chars text) && is_identifier_kind (word_kind text)
 
 -- a number: a digit, and characters of identifiers
 abbrev pub is_number : List ℕ → Bool

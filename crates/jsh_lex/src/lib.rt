@@ -22,6 +22,7 @@ pub use literal::char_value;
 pub use number::{int_value, long_value, needs_minus};
 pub use tokens::lex;
 pub use units::string_value;
+pub use word::is_identifier;
 
 #[cfg(test)]
 mod tests;

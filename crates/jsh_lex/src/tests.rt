@@ -1,4 +1,4 @@
-use crate::{LexError, LexFault, lex};
+use crate::{LexError, LexFault, is_identifier, lex};
 use jsh_tree::{Span, Token, TokenKind};
 use std::alloc::Global;
 use std::process::Abort;
@@ -286,6 +286,37 @@ const WORDS: [Row; 13] = [
 #[test]
 fn words_are_cut(rt: HostRuntime) -> Result<(), Fail> {
     check_all(&rt, rt.alloc(), &WORDS)
+}
+
+/// A text, and whether it is an identifier.
+const NAMES: [(&str, bool); 20] = [
+    ("x", true),
+    ("$1", true),
+    ("_a", true),
+    ("__", true),
+    ("été", true),
+    ("a\u{301}", true),
+    ("record", true),
+    ("If", true),
+    ("iff", true),
+    ("", false),
+    ("_", false),
+    ("if", false),
+    ("var", false),
+    ("null", false),
+    ("goto", false),
+    ("1a", false),
+    ("\u{301}a", false),
+    ("a b", false),
+    (" a", false),
+    ("a.b", false),
+];
+
+#[test]
+fn identifiers_are_known(rt: HostRuntime) {
+    for (text, is_name) in NAMES {
+        assert!(rt; is_identifier(text) == is_name, "{text:?}");
+    }
 }
 
 const NUMBERS: [Row; 29] = [

@@ -1,8 +1,13 @@
 //! Identifiers and reserved words.
 
 ghost use Rattle.std.specs.Prelude.{◌≡◌, map};
+ghost use Rattle.std.specs.List.{list_all};
+ghost use Rattle.std.specs.Str.{chars};
+ghost use Rattle.jsh_lex.specs.Chars.{is_identifier_part};
+ghost use Rattle.jsh_lex.specs.Spelling.{is_word, is_identifier_kind, is_identifier};
 ghost use Rattle.jsh_lex.specs.Table as spec;
 
+use crate::chars::{is_identifier_part, is_identifier_start, split_first};
 use jsh_tree::TokenKind;
 
 /// The reserved words (JLS 3.9), with the literals `true`, `false` and `null` and the word `_`.
@@ -82,4 +87,39 @@ pub fn word_kind(word: &[u8]) -> TokenKind
     ensures { result ≡ spec.word_kind word.now }
 {
     kind_in(&RESERVED_WORDS, word)
+}
+
+fn are_identifier_parts(mut text: &str) -> bool
+    ensures { result ≡ list_all is_identifier_part (chars text.entry.now) }
+{
+    while let Some((c, rest)) = split_first(text) {
+        if !is_identifier_part(c) {
+            return false;
+        }
+        text = rest;
+    }
+    true
+}
+
+fn is_word(text: &str) -> bool
+    ensures { result ≡ is_word (chars text.now) }
+{
+    match split_first(text) {
+        None => false,
+        Some((first, rest)) => is_identifier_start(first) && are_identifier_parts(rest),
+    }
+}
+
+fn is_identifier_kind(kind: TokenKind) -> bool
+    ensures { result ≡ is_identifier_kind kind }
+{
+    matches!(kind, TokenKind::Identifier)
+}
+
+/// Whether a text is an identifier (JLS 3.8), by the characters and the reserved words of this lexis.
+#[tactic(auto, unfolding(crate::specs::Spelling::is_identifier))]
+pub fn is_identifier(text: &str) -> bool
+    ensures { result ≡ is_identifier text.now }
+{
+    is_word(text) && is_identifier_kind(word_kind(text.as_bytes()))
 }

@@ -1,12 +1,14 @@
 -- The log and the parts stand for the history with the entry that was done.
-use Rattle.std.proofs.Common.{◌≤◌, ◌+◌, length, vec_capacity, ap, subst, ◌∙◌, arith}
+use Rattle.std.proofs.Common.{◌≤◌, ◌+◌, length, min, vec_capacity, ap, subst, ◌∙◌, arith}
 use Rattle.jsh_snippet.specs.declared.acts.Entry.{Entry}
 use Rattle.jsh_core.specs.State.{State, Stepped}
-use Rattle.jsh_core.specs.Step.{act_step}
+use Rattle.jsh_core.specs.Step.{act_step, step}
 use Rattle.jsh_core.specs.History.{state_of, Allows}
 use Rattle.jsh_core.proofs.CauseLemmas.{reply-causes}
+use Rattle.jsh_core.proofs.DeliveryLemmas.{IsReplied, replied-done}
 use Rattle.jsh_core.proofs.KeptLemmas.{IsRoomy, StandsFor-cut, StandsFor-kept}
-use Rattle.jsh_core.proofs.StandsLemmas.{IsLonger, room-for}
+use Rattle.jsh_core.proofs.ActLemmas.{served-allowed}
+use Rattle.jsh_core.proofs.StandsLemmas.{IsLonger, IsWithin-more, room-for}
 use Rattle.jsh_core.proofs.engine.Core.apply.Goals as goal
 
 pub push_entry-requires-clause-room : goal.push_entry-requires-clause-room
@@ -15,6 +17,11 @@ push_entry-requires-clause-room g c =
     let room : length c.make_room.new.log.history.items + 1 ≤ vec_capacity c.make_room.new.log.history =
     room-for c.self.inside.log c.make_room.new.log c.self.inside.parts c.args.entry c.self.invariant allowed c.make_room.ensures.items c.make_room.ensures.capacity c.in_ok-make_room.ensures.room in
     omega (arith, c.make_room.new.log.history.ok.0, room)
+
+pub perform-requires-clause-within : goal.perform-requires-clause-within
+perform-requires-clause-within g c =
+    let few : min (length c.self.inside.log.history.items) 4194304 ≤ 4194304 = omega arith in
+    IsWithin-more _ _ _ few c.self.invariant.within
 
 pub invariant_of-self-in-Ok : goal.invariant_of-self-in-Ok
 invariant_of-self-in-Ok g c =
@@ -32,8 +39,11 @@ invariant_of-self-in-Ok g c =
       bytes = c.push_entry.ensures.bytes;
       closed = c.push_entry.ensures.closed;
     } in
-    StandsFor-kept c.self.inside.log c.make_room.new.log c.push_entry.new.log c.args.entry c.self.inside.parts c.perform.new.parts c.in-Ok.reply c.self.invariant allowed roomy
-    (subst (λ (e : Entry). IsLonger c.make_room.new.log c.push_entry.new.log e) c.kept_entry.ensures longer) c.in-Ok.ensures.done
+    let replied : IsReplied c.self.inside.parts c.deliver.new.parts c.args.entry.client c.args.entry.act c.deliver.result =
+    replied-done c.self.inside.parts c.perform.new.parts c.deliver.new.parts c.args.entry.client c.args.entry.act c.in-Ok.body c.deliver.result
+    c.in-Ok.ensures.done c.deliver.ensures.step c.deliver.ensures.sound c.deliver.ensures.within in
+    StandsFor-kept c.self.inside.log c.make_room.new.log c.push_entry.new.log c.args.entry c.self.inside.parts c.deliver.new.parts c.deliver.result c.self.invariant allowed roomy
+    (subst (λ (e : Entry). IsLonger c.make_room.new.log c.push_entry.new.log e) c.kept_entry.ensures longer) replied
 
 pub invariant_of-self-then-cut-gt0 : goal.invariant_of-self-then-cut-gt0
 invariant_of-self-then-cut-gt0 g c =
@@ -56,6 +66,9 @@ invariant_of-self-then-cut-gt0 g c =
 
 pub returns-in-Ok-clause-causes : goal.returns-in-Ok-clause-causes
 returns-in-Ok-clause-causes g c =
-    reply-causes c.args.self.now c.args.entry c.in-Ok.reply c.requires c.in-Ok.ensures.utf8
-    (ap (λ (s : Stepped). s.reply) c.in-Ok.ensures.done.step
-    ∙ ap (λ (s : State). (act_step s c.args.entry.client c.args.entry.act).reply) (c.self.invariant.state ∙ ap state_of c.self.view_is))
+    let replied : IsReplied c.self.inside.parts c.deliver.new.parts c.args.entry.client c.args.entry.act c.deliver.result =
+    replied-done c.self.inside.parts c.perform.new.parts c.deliver.new.parts c.args.entry.client c.args.entry.act c.in-Ok.body c.deliver.result
+    c.in-Ok.ensures.done c.deliver.ensures.step c.deliver.ensures.sound c.deliver.ensures.within in
+    reply-causes c.args.self.now c.args.entry c.deliver.result c.requires c.perform.ensures.utf8
+    (ap (λ (s : Stepped). s.reply) replied.step
+    ∙ ap (λ (s : State). (step s c.args.entry).reply) (c.self.invariant.state ∙ ap state_of c.self.view_is))
