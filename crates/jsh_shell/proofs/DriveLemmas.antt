@@ -31,7 +31,10 @@ use Rattle.jsh_shell.specs.Progress.Phase.{Between, Evaluating, CutShort}
 use Rattle.jsh_shell.specs.Transcript.{is_turn}
 use Rattle.jsh_shell.specs.Driving.{HasTurn, done_of, last_act}
 use Rattle.jsh_shell.specs.Serving.{Drives, DrivesPart, DrivesTo, Fails, GoesOnNoMore, Halts, IsOpen, Serves, ServesPart, Shows, Stands}
-use Rattle.jsh_shell.proofs.Owed.{GoesSome, GoesOnBecause, collect-running, picked-none, picked-ready, step-kept, turn-some}
+use Rattle.jsh_core.proofs.Collecting.{GoesOnBecause, collect-running}
+use Rattle.jsh_core.proofs.Picking.{picked-none, picked-ready}
+use Rattle.jsh_core.proofs.Steps.{step-kept}
+use Rattle.jsh_core.proofs.TurnLaws.{GoesSome, turn-some}
 use Rattle.jsh_shell.proofs.Walk.{advances-act, advances-one, append_known-nothing, goes-on, halts-act, halts-here, halts-one, open-push, transcript-turn}
 use Rattle.jsh_shell.proofs.ActLemmas.{by, with_core}
 use Rattle.jsh_shell.proofs.ServeLemmas.{part-when-full, serves-append, serves-part-append}

@@ -1,4 +1,3 @@
-mod Owed
 pub mod Onward
 pub mod Walk
 pub mod ActLemmas

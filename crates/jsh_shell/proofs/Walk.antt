@@ -15,7 +15,7 @@ use Rattle.jsh_core.specs.Step.{step, kept, kept_act}
 use Rattle.jsh_core.specs.Acts.{is_last}
 use Rattle.jsh_core.specs.Stands.{IsCutShort}
 use Rattle.jsh_core.specs.History.{state_of, state_after, is_close}
-use Rattle.jsh_shell.proofs.Owed.{leaves, step-present}
+use Rattle.jsh_core.proofs.Steps.{leaves, step-present}
 use Rattle.jsh_shell.specs.declared.halts.Halt.{Halt}
 use Rattle.jsh_shell.specs.declared.halts.Halt.TheVariants as halt
 use Rattle.jsh_shell.specs.Progress.{Progress, Goes, GoesOn, OwnGoes, Follows, is_limit}
