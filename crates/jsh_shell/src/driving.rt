@@ -43,7 +43,12 @@ fn next_turn(session: &Session, run: u32) -> Option<NextTurn>
         return None;
     }
     let main_first = session.last_turn != view.main;
-    match pick(session.core.states(), session.cursor, Some(view.main), main_first) {
+    match pick(
+        session.core.states(),
+        session.cursor,
+        Some(view.main),
+        main_first,
+    ) {
         Some(thread) => Some(NextTurn {
             thread,
             main: view.main,
@@ -76,8 +81,8 @@ fn turn_steps(left: u64) -> u32
 /// The turns of a session behind one more.
 fn note_turn(session: &mut Session, turn: NextTurn)
     ensures { session.new ≡ record session.old {
-        last_turn = turn.thread;
-        cursor = if turn.thread == turn.main then session.old.cursor else turn.thread;
+      last_turn = turn.thread;
+      cursor = if turn.thread == turn.main then session.old.cursor else turn.thread;
     } }
 {
     session.last_turn = turn.thread;

@@ -151,7 +151,16 @@ pub fn serve_begun<O: Sink, L: Ledger>(
         Ok(()) => (),
         Err(_refused) => return Err(Halt::NoMemory),
     }
-    let behind = match serve_line(alloc, session, client, budget, sink, held, begun.as_slice(), steps) {
+    let behind = match serve_line(
+        alloc,
+        session,
+        client,
+        budget,
+        sink,
+        held,
+        begun.as_slice(),
+        steps,
+    ) {
         Ok(behind) => behind,
         Err(why) => return Err(why),
     };

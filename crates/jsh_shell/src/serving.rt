@@ -52,7 +52,9 @@ fn serve_piece<O: Sink, L: Ledger>(
     let mut rest = piece;
     'lines: while let Some(at) = line_end(rest) {
         let (line, next) = rest.split_at(at);
-        let behind = match serve_begun(alloc, session, client, budget, sink, waiting, begun, line, steps) {
+        let behind = match serve_begun(
+            alloc, session, client, budget, sink, waiting, begun, line, steps,
+        ) {
             Ok(behind) => behind,
             Err(why) => return Err(why),
         };
@@ -116,7 +118,16 @@ pub fn serve_pieces<I: Source, O: Sink, L: Ledger>(
             Err(_failed) => return READ_FAILED,
         };
         if count == 0 {
-            match serve_end(alloc, session, client, budget, sink, held, begun.as_slice(), steps) {
+            match serve_end(
+                alloc,
+                session,
+                client,
+                budget,
+                sink,
+                held,
+                begun.as_slice(),
+                steps,
+            ) {
                 Ok(()) => return ALL_SERVED,
                 Err(why) => return why.status(),
             }

@@ -177,8 +177,16 @@ fn check<R: Threads + Wait + Sync + Abort>(rt: &R, alloc: Global, row: &Row) -> 
     let mut desk = desk(alloc, row.input.as_bytes())?;
     let report = run(rt, alloc, words.as_slice(), &mut desk, &OpenGate);
     assert_eq!(rt; report.status, 0, "{}", row.input);
-    assert!(rt; has_written(&report, row.written.as_bytes()), "{}", row.input);
-    assert!(rt; has_entries(report.journal.as_slice(), row.entries), "{}", row.input);
+    assert!(rt;
+        has_written(&report, row.written.as_bytes()),
+        "{}",
+        row.input
+    );
+    assert!(rt;
+        has_entries(report.journal.as_slice(), row.entries),
+        "{}",
+        row.input
+    );
     Ok(())
 }
 

@@ -19,15 +19,18 @@ entry_at-requires g c = grown-entry _ _ _ _ (c.in-Ok.ensures.history ∙ ap (λ 
 pub returns-then-is_limit-clause-err : goal.returns-then-is_limit-clause-err
 returns-then-is_limit-clause-err g c =
     let grows : c.apply.new.self ≡ c.args.core.now ++ c.args.entry ∷ [] = c.in-Ok.ensures.history ∙ ap (λ (e : Entry). c.args.core.now ++ e ∷ []) (kept-quiet c.args.entry c.in-Ok.reply c.requires.quiet) in
-    inr (inr ((
-      c.in-Ok.reply,
-      record {
-        reply = c.in-Ok.ensures.reply;
-        grows = grows;
-        written = c.in-Ok-write_shown.ensures.ok ∙ ap (λ (e : Entry). append_known (g.O.Sink.held c.args.sink.now) (shown e c.in-Ok.reply)) (same-entry _ _ _ _ _ grows c.len-place.ensures.entries c.entry_at.ensures);
-      },
-      sym c.is_limit.ensures ∙ c.if-is_limit.true,
-    ), refl))
+    inr (inr (
+      (
+        c.in-Ok.reply,
+        record {
+          reply = c.in-Ok.ensures.reply;
+          grows = grows;
+          written = c.in-Ok-write_shown.ensures.ok ∙ ap (λ (e : Entry). append_known (g.O.Sink.held c.args.sink.now) (shown e c.in-Ok.reply)) (same-entry _ _ _ _ _ grows c.len-place.ensures.entries c.entry_at.ensures);
+        },
+        sym c.is_limit.ensures ∙ c.if-is_limit.true,
+      ),
+      refl,
+    ))
 
 pub returns-then-is_limit-clause-open : goal.returns-then-is_limit-clause-open
 returns-then-is_limit-clause-open g c =

@@ -16,8 +16,13 @@ returns-in-Ok-Some-clause-served g c = λ budget is.
 
 pub returns-in-Ok-Some-clause-alone : goal.returns-in-Ok-Some-clause-alone
 returns-in-Ok-Some-clause-alone g c = λ none. elim (c.serve_desk.ensures.alone none) [
-  | inl failed ↦ inl (failed.2, failed.1, λ accepted. failed.0, λ refused.
-      let both : Some c.in-Ok-Some.budget ≡ None = sym c.in-Ok-Some.field-0-is ∙ c.in-Ok-Some.ensures ∙ refused in absurd cc)
+  | inl failed ↦ inl (
+    failed.2,
+    failed.1,
+    λ accepted. failed.0,
+    λ refused.
+        let both : Some c.in-Ok-Some.budget ≡ None = sym c.in-Ok-Some.field-0-is ∙ c.in-Ok-Some.ensures ∙ refused in absurd cc,
+  )
   | inr short ↦ inr short
 ]
 
