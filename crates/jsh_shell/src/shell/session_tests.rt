@@ -5,6 +5,7 @@ use super::*;
 use jsh_io::{MemoryDesk, MemorySink, MemorySource, OpenGate};
 use jsh_snippet::{Act, Entry, Question, Target};
 use std::alloc::AllocError;
+use std::process::Abort;
 use std::test::Fail;
 
 /// What an entry of the first client does.
