@@ -1,0 +1,10 @@
+//! What a simple name means to a snippet, by the live members and the library, with the list of what
+//! was asked.
+#![tactic(auto)]
+
+mod answers;
+mod env;
+mod imports;
+
+pub use answers::{LibraryAnswer, MethodAnswer, StaticConstant, StaticMethod, TypeAnswer, VarAnswer, Visible};
+pub use env::Env;
