@@ -1,7 +1,7 @@
 -- What imports give (JLS 7.5), by a library. A library type has its simple name and that of its package.
-use Rattle.std.specs.Prelude.{ℕ, Bool, List, [], ◌∷◌, ◌++◌, ◌-◌, Option, Some, None, option_map, if◌then◌else◌, length, take, map, codes, ◌&&◌}
+use Rattle.std.specs.Prelude.{ℕ, Bool, List, [], ◌∷◌, ◌++◌, ◌-◌, Option, Some, None, option_map, if◌then◌else◌, length, take, codes, ◌&&◌, slice_get}
 use Rattle.std.specs.Option.{option_or}
-use Rattle.std.specs.List.{flat_map, filter, find, slice_get}
+use Rattle.std.specs.List.{flat_map, find}
 use Rattle.jsh_tree.specs.declared.key.Key.{Key}
 use Rattle.jsh_tree.specs.declared.key.Key.TheVariants as key
 use Rattle.jsh_tree.specs.declared.library.Library.{Library}
@@ -9,17 +9,27 @@ use Rattle.jsh_tree.specs.declared.library.LibraryType.{LibraryType}
 use Rattle.jsh_tree.specs.declared.library.LibraryMethod.{LibraryMethod}
 use Rattle.jsh_tree.specs.declared.library.LibraryConstant.{LibraryConstant}
 use Rattle.jsh_tree.specs.declared.library.Member.{Member}
-use Rattle.jsh_scope.specs.declared.imports.Imported.{Imported}
-use Rattle.jsh_scope.specs.declared.imports.Imported.TheVariants as imported
+use Rattle.jsh_scope.specs.declared.imported.Imported.{Imported}
+use Rattle.jsh_scope.specs.declared.imported.Imported.TheVariants as imported
+use Rattle.jsh_scope.specs.declared.answers.TypeAnswer.{TypeAnswer}
+use Rattle.jsh_scope.specs.declared.answers.TypeAnswer.TheVariants as type_answer
+use Rattle.jsh_scope.specs.declared.answers.VarAnswer.{VarAnswer}
+use Rattle.jsh_scope.specs.declared.answers.VarAnswer.TheVariants as var_answer
+use Rattle.jsh_scope.specs.declared.answers.MethodAnswer.{MethodAnswer}
+use Rattle.jsh_scope.specs.declared.answers.MethodAnswer.TheVariants as method_answer
 use Rattle.jsh_scope.specs.Scope.{same_name}
+
+-- a name with a dot before it
+abbrev pub further_part : List ℕ → List ℕ
+further_part part = codes "." ++ part
 
 -- names with a dot between each two
 abbrev pub joined : List (List ℕ) → List ℕ
 joined [] = []
-joined (first ∷ rest) = first ++ flat_map (λ (part : List ℕ). codes "." ++ part) rest
+joined (first ∷ rest) = first ++ flat_map further_part rest
 
-abbrev pub last : List (List ℕ) → Option (List ℕ)
-last parts = slice_get parts (length parts - 1)
+abbrev pub last_part : List (List ℕ) → Option (List ℕ)
+last_part parts = slice_get parts (length parts - 1)
 
 abbrev pub all_but_last : List (List ℕ) → List (List ℕ)
 all_but_last parts = take (length parts - 1) parts
@@ -36,27 +46,27 @@ static_import_on_demand package (Some type) = imported.OfStatics package type �
 
 -- `import static package.type.name;` (JLS 7.5.3)
 abbrev pub single_static_import : List ℕ → Option (List ℕ) → Option (List ℕ) → List Imported
+single_static_import package None _ = []
+single_static_import package (Some type) None = []
 single_static_import package (Some type) (Some name) = imported.OfStatic package type name ∷ []
-single_static_import package _ _ = []
 
--- an import by its key; one with too few parts gives nothing
-abbrev pub import_of : Bool → List (List ℕ) → Bool → List Imported
-import_of is_static parts on_demand =
-    if is_static
-    then (if on_demand
-        then static_import_on_demand (joined (all_but_last parts)) (last parts)
-        else single_static_import (joined (all_but_last (all_but_last parts))) (last (all_but_last parts)) (last parts))
-    else (if on_demand
-        then imported.OfPackage (joined parts) ∷ []
-        else single_type_import (joined (all_but_last parts)) (last parts))
+-- an import that isn't static
+abbrev pub type_import : List (List ℕ) → Bool → List Imported
+type_import parts on_demand = if on_demand then imported.OfPackage (joined parts) ∷ [] else single_type_import (joined (all_but_last parts)) (last_part parts)
 
--- the import that a key is
+abbrev pub static_import : List (List ℕ) → Bool → List Imported
+static_import parts on_demand =
+    if on_demand
+    then static_import_on_demand (joined (all_but_last parts)) (last_part parts)
+    else single_static_import (joined (all_but_last (all_but_last parts))) (last_part (all_but_last parts)) (last_part parts)
+
+-- the import that a key is; one with too few parts is none
 abbrev pub import_in : Key → List Imported
-import_in (key.OfImport is_static parts on_demand) = import_of is_static parts on_demand
+import_in (key.OfImport is_static parts on_demand) = if is_static then static_import parts on_demand else type_import parts on_demand
 import_in _ = []
 
 -- the live imports, by rising id
-abbrev pub imports_of : List Member → List Imported
+unfoldable pub imports_of : List Member → List Imported
 imports_of members = flat_map (λ (member : Member). import_in member.key) members
 
 -- what the import with the greatest id gives, of those that give something
@@ -69,69 +79,66 @@ abbrev pub first_nonempty : {A : Type 0} → List A → List A → List A
 first_nonempty [] others = others
 first_nonempty (first ∷ rest) others = first ∷ rest
 
--- a constant with its type
-pub record StaticConstant : Type 0 where
-  pub of : LibraryType
-  pub constant : LibraryConstant
-
--- a static method with its type
-pub record StaticMethod : Type 0 where
-  pub of : LibraryType
-  pub method : LibraryMethod
-
 -- the type has both names
 abbrev pub is_named : List ℕ → List ℕ → LibraryType → Bool
-is_named package name type = same_name package type.package && same_name name type.name
+is_named package name type = same_name type.package package && same_name type.name name
 
-abbrev pub constant_in : List ℕ → Option LibraryType → Option StaticConstant
+-- the constant of this name of a type
+abbrev pub constant_in : List ℕ → Option LibraryType → Option VarAnswer
 constant_in name None = None
 constant_in name (Some type) =
-    option_map (λ (constant : LibraryConstant). record { of = type; constant = constant }) (find (λ (constant : LibraryConstant). same_name name constant.name) type.constants)
+    option_map (λ (constant : LibraryConstant). var_answer.Library (record { of = type; constant = constant })) (find (λ (constant : LibraryConstant). same_name constant.name name) type.constants)
 
-abbrev pub is_static_method : List ℕ → LibraryMethod → Bool
-is_static_method name method = method.is_static && same_name name method.signature.name
+-- a method, where it is static and has this name
+abbrev pub static_method : List ℕ → LibraryType → LibraryMethod → List MethodAnswer
+static_method name type method =
+    if method.is_static && same_name method.signature.name name then method_answer.Library (record { of = type; method = method }) ∷ [] else []
 
-abbrev pub methods_in : List ℕ → Option LibraryType → List StaticMethod
+-- the static methods of this name of a type
+abbrev pub methods_in : List ℕ → Option LibraryType → List MethodAnswer
 methods_in name None = []
-methods_in name (Some type) = map (λ (method : LibraryMethod). record { of = type; method = method }) (filter (is_static_method name) type.methods)
+methods_in name (Some type) = flat_map (static_method name type) type.methods
 
 module _ (library : Library) where
   abbrev pub named : List ℕ → List ℕ → Option LibraryType
   named package name = find (is_named package name) library.types
 
+  abbrev pub type_in : List ℕ → List ℕ → Option TypeAnswer
+  type_in package name = option_map (λ (type : LibraryType). type_answer.Library type) (named package name)
+
   module _ (name : List ℕ) where
-    abbrev pub single_type : Imported → Option LibraryType
-    single_type (imported.OfType package found) = if same_name name found then named package name else None
+    abbrev pub single_type : Imported → Option TypeAnswer
+    single_type (imported.OfType package found) = if same_name found name then type_in package name else None
     single_type _ = None
 
-    abbrev pub type_on_demand : Imported → Option LibraryType
-    type_on_demand (imported.OfPackage package) = named package name
+    abbrev pub type_on_demand : Imported → Option TypeAnswer
+    type_on_demand (imported.OfPackage package) = type_in package name
     type_on_demand _ = None
 
-    abbrev pub single_constant : Imported → Option StaticConstant
-    single_constant (imported.OfStatic package type found) = if same_name name found then constant_in name (named package type) else None
+    abbrev pub single_constant : Imported → Option VarAnswer
+    single_constant (imported.OfStatic package type found) = if same_name found name then constant_in name (named package type) else None
     single_constant _ = None
 
-    abbrev pub constant_on_demand : Imported → Option StaticConstant
+    abbrev pub constant_on_demand : Imported → Option VarAnswer
     constant_on_demand (imported.OfStatics package type) = constant_in name (named package type)
     constant_on_demand _ = None
 
-    abbrev pub single_methods : Imported → List StaticMethod
-    single_methods (imported.OfStatic package type found) = if same_name name found then methods_in name (named package type) else []
+    abbrev pub single_methods : Imported → List MethodAnswer
+    single_methods (imported.OfStatic package type found) = if same_name found name then methods_in name (named package type) else []
     single_methods _ = []
 
-    abbrev pub methods_on_demand : Imported → List StaticMethod
+    abbrev pub methods_on_demand : Imported → List MethodAnswer
     methods_on_demand (imported.OfStatics package type) = methods_in name (named package type)
     methods_on_demand _ = []
 
     -- a type of the library: by a single import, else by one on demand, else of `java.lang` (JLS 6.4.1, 7.3)
-    unfoldable pub imported_type : List Imported → Option LibraryType
-    imported_type imports = option_or (last_given single_type imports) (option_or (last_given type_on_demand imports) (named (codes "java.lang") name))
+    unfoldable pub imported_type : List Imported → Option TypeAnswer
+    imported_type imports = option_or (last_given single_type imports) (option_or (last_given type_on_demand imports) (type_in (codes "java.lang") name))
 
     -- a constant of the library: by a single import, else by one on demand
-    unfoldable pub imported_constant : List Imported → Option StaticConstant
+    unfoldable pub imported_constant : List Imported → Option VarAnswer
     imported_constant imports = option_or (last_given single_constant imports) (last_given constant_on_demand imports)
 
     -- static methods of the library: of all single imports, else of all on demand
-    unfoldable pub imported_methods : List Imported → List StaticMethod
+    unfoldable pub imported_methods : List Imported → List MethodAnswer
     imported_methods imports = first_nonempty (flat_map single_methods imports) (flat_map methods_on_demand imports)

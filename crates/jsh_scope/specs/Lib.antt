@@ -1,5 +1,6 @@
 pub mod Scope
-pub mod Closure
 pub mod Reached
+pub mod Statics
 pub mod Imports
 pub mod Answers
+pub mod Indexes

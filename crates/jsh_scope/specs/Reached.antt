@@ -1,13 +1,13 @@
 -- Which types a header reaches through the types that it mentions.
-use Rattle.std.specs.Prelude.{ℕ, Bool, List, [], ◌∷◌, Option, Some, None, if◌then◌else◌, nat_eq, length}
-use Rattle.std.specs.Option.{is_some, option_to_list}
-use Rattle.std.specs.List.{flat_map, filter, list_any, position, slice_get, range_with_len}
+use Rattle.std.specs.Prelude.{ℕ, Bool, false, List, [], ◌∷◌, Option, Some, None, if◌then◌else◌, length, slice_get}
+use Rattle.std.specs.Option.{is_some}
+use Rattle.std.specs.List.{flat_map, filter, position_from, range_with_len}
 use Rattle.jsh_tree.specs.declared.key.Header.{Header}
 use Rattle.jsh_tree.specs.declared.key.Link.{Link}
 use Rattle.jsh_tree.specs.declared.library.Member.{Member}
 use Rattle.jsh_snippet.specs.Mentions.{mentions}
+use Rattle.jsh_closure.specs.Closure.{closure, is_among}
 use Rattle.jsh_scope.specs.Scope.{is_type}
-use Rattle.jsh_scope.specs.Closure.{closure}
 
 -- a visible declaration
 pub record Linked : Type 0 where
@@ -20,44 +20,52 @@ pub record Visible : Type 0 where
   pub header : Header
   pub reached : List Linked
 
--- a member, where it is visible
-abbrev pub linked : Member → Option Link → List Linked
-linked member None = []
-linked member (Some link) = record { link = link; header = member.header } ∷ []
+-- the first place of a member that passes
+unfoldable pub first_place : (Member → Bool) → List Member → Option ℕ
+first_place passes members = position_from passes 0 members
+
+-- what is declared, where it is visible
+abbrev pub linked : Header → Option Link → List Linked
+linked header None = []
+linked header (Some link) = record { link = link; header = header } ∷ []
 
 -- the member at a place, where it is visible
 abbrev pub linked_at : Option Member → List Linked
 linked_at None = []
-linked_at (Some member) = linked member member.link
+linked_at (Some member) = linked member.header member.link
 
--- a place, where the member there is visible
-abbrev pub place_of_linked : ℕ → Option Member → List ℕ
-place_of_linked place None = []
-place_of_linked place (Some member) = if is_some member.link then place ∷ [] else []
+-- a member is there and is visible
+abbrev pub is_visible_at : Option Member → Bool
+is_visible_at None = false
+is_visible_at (Some member) = is_some member.link
 
 module _ (members : List Member) where
+  -- a place, where the member there is visible
+  abbrev pub visible_places : Option ℕ → List ℕ
+  visible_places None = []
+  visible_places (Some place) = if is_visible_at (slice_get members place) then place ∷ [] else []
+
   -- the place of the live type of this name, where it is visible
-  abbrev pub places_named : Option ℕ → List ℕ
-  places_named None = []
-  places_named (Some place) = place_of_linked place (slice_get members place)
+  abbrev pub places_named : List ℕ → List ℕ
+  places_named name = visible_places (first_place (is_type name) members)
 
   -- the places of the visible types that a header mentions, in its order
-  abbrev pub places_in : Header → List ℕ
-  places_in header = flat_map (λ (name : List ℕ). places_named (position (is_type name) members)) (mentions header)
+  unfoldable pub places_in : Header → List ℕ
+  places_in header = flat_map places_named (mentions header)
 
   -- the same of the member at a place
-  abbrev pub places_at : Option Member → List ℕ
-  places_at None = []
-  places_at (Some member) = places_in member.header
+  abbrev pub places_from : Option Member → List ℕ
+  places_from None = []
+  places_from (Some member) = places_in member.header
 
-  -- the header of the member at one place mentions the visible type at the other
+  -- the header at the one place mentions the visible type at the other
   abbrev pub leads : ℕ → ℕ → Bool
-  leads from to = list_any (nat_eq to) (places_at (slice_get members from))
+  leads from to = is_among (places_from (slice_get members from)) to
 
-  -- the visible types that a header mentions, and that the headers of these mention, and so on
+  -- the visible types that a header mentions, those that the headers of these mention, and so on
   abbrev pub is_reached : Header → ℕ → Bool
-  is_reached header place = closure (length members) (λ to. list_any (nat_eq to) (places_in header)) leads place
+  is_reached header = closure (length members) (is_among (places_in header)) leads
 
   -- each of them once, by rising id
   unfoldable pub reached : Header → List Linked
-  reached header = flat_map (λ place. linked_at (slice_get members place)) (filter (is_reached header) (range_with_len 0 (length members)))
+  reached header = flat_map (λ (place : ℕ). if is_reached header place then linked_at (slice_get members place) else []) (range_with_len 0 (length members))

@@ -1,5 +1,5 @@
 -- What an environment stands for, and how a name finds a member.
-use Rattle.std.specs.Prelude.{ℕ, Bool, false, List, Option, Some, None, nat_eq, ◌&&◌}
+use Rattle.std.specs.Prelude.{ℕ, Bool, false, List, Option, nat_eq, ◌&&◌}
 use Rattle.std.specs.Option.{is_some}
 use Rattle.std.specs.Cmp.Lexicographic.{pointwise}
 use Rattle.jsh_tree.specs.declared.key.Key.{Key}
@@ -37,4 +37,8 @@ is_type name member = is_type_key name member.key
 
 -- a visible variable of this name
 abbrev pub is_visible_variable : List ℕ → Member → Bool
-is_visible_variable name member = is_variable_key name member.key && is_some member.link
+is_visible_variable name member = is_some member.link && is_variable_key name member.key
+
+-- a visible method of this name
+abbrev pub is_visible_method : List ℕ → Member → Bool
+is_visible_method name member = is_some member.link && is_method_key name member.key

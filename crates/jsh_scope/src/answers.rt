@@ -66,7 +66,7 @@ pub struct StaticConstant<'a> {
 }
 
 impl<'a> Model for StaticConstant<'a> {
-    ghost use Rattle.jsh_scope.specs.Imports as spec;
+    ghost use Rattle.jsh_scope.specs.Statics as spec;
 
     ghost Value = { spec.StaticConstant };
 
@@ -81,7 +81,7 @@ pub struct StaticMethod<'a> {
 }
 
 impl<'a> Model for StaticMethod<'a> {
-    ghost use Rattle.jsh_scope.specs.Imports as spec;
+    ghost use Rattle.jsh_scope.specs.Statics as spec;
 
     ghost Value = { spec.StaticMethod };
 

@@ -4,7 +4,9 @@
 
 mod answers;
 mod env;
-mod imports;
+mod imported;
+mod indexes;
+mod library;
 
 pub use answers::{LibraryAnswer, MethodAnswer, StaticConstant, StaticMethod, TypeAnswer, VarAnswer, Visible};
 pub use env::Env;

@@ -1,0 +1,57 @@
+//! The smallest set of places that holds some first ones and all that these lead to.
+#![tactic(auto)]
+
+ghost use Rattle.std.specs.Prelude.{◌≡◌, [], ◌∷◌, IfOk, OnOk, slice_get};
+ghost use Rattle.jsh_closure.specs.Closure as spec;
+ghost use Rattle.jsh_closure.specs.Searches.{Adds, IsSearch};
+
+use jsh_tree::Seq;
+use std::alloc::{AllocError, Global};
+
+/// For each place, whether it is in the smallest set that holds the first ones and, with each place,
+/// those that its edges name. Numbers that are no places count for nothing. The cost grows with the
+/// places and with the edges of those that are found.
+pub fn closure(
+    alloc: Global,
+    first: &[usize],
+    edges: &[Seq<usize>],
+) -> Result<Vec<bool>, AllocError>
+    ensures { IfOk result (λ marks. marks.items ≡ spec.marks first.now edges.now) }
+{
+    let mut marks = Vec::from_elem(alloc, false, edges.len())?;
+    let mut waiting = Vec::new(alloc);
+    add(first, &mut marks, &mut waiting)?;
+    while let Some(place) = waiting.pop() {
+        add(next_of(edges, place), &mut marks, &mut waiting)?;
+    }
+    Ok(marks)
+}
+
+fn next_of(edges: &[Seq<usize>], place: usize) -> &[usize]
+    ensures { result.now ≡ spec.places_at (slice_get edges.now place) }
+{
+    match edges.get(place) {
+        Some(next) => next.as_slice(),
+        None => &[],
+    }
+}
+
+/// Marks the places that aren't marked, and puts them on the list of those whose edges are to be followed.
+fn add(places: &[usize], marks: &mut Vec<bool>, waiting: &mut Vec<usize>) -> Result<(), AllocError>
+    ensures { OnOk result (Adds places.now marks.old.items waiting.old.items marks.new.items waiting.new.items) }
+{
+    for place in places {
+        add_one(*place, marks, waiting)?;
+    }
+    Ok(())
+}
+
+fn add_one(place: usize, marks: &mut Vec<bool>, waiting: &mut Vec<usize>) -> Result<(), AllocError>
+    ensures { OnOk result (Adds (place ∷ []) marks.old.items waiting.old.items marks.new.items waiting.new.items) }
+{
+    if place < marks.len() && !marks[place] {
+        waiting.push(place)?;
+        marks[place] = true;
+    }
+    Ok(())
+}
