@@ -1,6 +1,6 @@
 -- The closure is the smallest closed set.
 use Rattle.std.proofs.Common.{◌≡◌, ℕ, zero, suc, ◌+◌, ◌<◌, ◌≤◌, Bool, true, false, cond, ◌||◌, ◌&&◌, ◌⊎◌, inl, inr, refl, sym, ◌∙◌, ap, arith}
-use Rattle.std.proofs.lemmas.Bool.{or_cases, or_left, or_right, and_parts, and_from, cases_Bool, cases_eq, false_from_ne_true, both_ways}
+use Rattle.std.proofs.lemmas.Bool.{or_cases, or_left, or_right, and_parts, and_from, cases_Bool, cases_eq, both_ways}
 use Rattle.jsh_closure.specs.Closure.{any_below, within, closure, IsClosed, IsSmallest}
 
 any_here : (n : ℕ) (test : ℕ → Bool) (place : ℕ) → test place ≡ true → (place ≡ n) ⊎ (place ≡ n → ⊥) → ((place ≡ n → ⊥) → any_below n test ≡ true) → (any_below n test || test n) ≡ true

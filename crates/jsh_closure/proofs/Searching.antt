@@ -1,11 +1,10 @@
 -- A search keeps its invariant, and ends with the closure.
-use Rattle.std.proofs.Common.{◌≡◌, ℕ, zero, suc, ◌+◌, ◌<◌, ◌≤◌, Bool, true, false, ◌||◌, ◌&&◌, ◌⊎◌, inl, inr, List, [], ◌∷◌, ◌++◌, length, get_or, map, Option, Some, None, refl, sym, ◌∙◌, ap, arith}
+use Rattle.std.proofs.Common.{◌≡◌, ℕ, zero, suc, ◌<◌, Bool, true, false, ◌&&◌, ◌⊎◌, inl, inr, List, [], ◌∷◌, ◌++◌, length, get_or, refl, sym, ◌∙◌, ap, arith}
 use Rattle.std.proofs.lemmas.Bool.{or_cases, or_left, or_right, and_parts, and_from, cases_Bool, cases_eq, both_ways, lt-ltb, ltb-true, ltb-false, false_from_ne_true, eqb-true, eq-eqb}
 use Rattle.std.proofs.Math.ListN.{replicate}
 use Rattle.std.proofs.lemmas.List.{ext_get_or, get_or_past}
 use Rattle.std.proofs.lemmas.List.Folds.{list_any-append}
 use Rattle.std.proofs.lemmas.List.FromFn.{get_or-map-range_with_len, length-map-range_with_len}
-use Rattle.std.specs.List.{range_with_len}
 use Rattle.std.specs.Prelude.{nat_eq, nat_lt, slice_get}
 use Rattle.jsh_closure.specs.Closure.{is_among, places_at, has_edge, closure, marks, IsClosed, IsSmallest}
 use Rattle.jsh_closure.specs.Searches.{Adds, IsSearch}
@@ -109,3 +108,15 @@ module _ (first : List ℕ) (edges : List (List ℕ)) where
       }
       at : (i : ℕ) → i < length edges → get_or m i false ≡ closure (length edges) (is_among first) (has_edge edges) i
       at i below = same_bool (get_or m i false) (closure (length edges) (is_among first) (has_edge edges) i) (search.sound i below) (law.contained (λ k. get_or m k false) closed i below)
+
+  read : (place : ℕ) → place < length edges → get_or (marks first edges) place false ≡ closure (length edges) (is_among first) (has_edge edges) place
+  read place below = get_or-map-range_with_len set_of 0 (length edges) place place false below (omega arith)
+
+  pub is_smallest : IsSmallest (length edges) (is_among first) (has_edge edges) (λ place. get_or (marks first edges) place false)
+  is_smallest = record {
+    closed = record {
+      holds_first = λ place below held. read place below ∙ law.closed.holds_first place below held;
+      holds_next = λ from to from_below to_below held next. read to to_below ∙ law.closed.holds_next from to from_below to_below (sym (read from from_below) ∙ held) next;
+    };
+    contained = λ other closed place below held. law.contained other closed place below (sym (read place below) ∙ held);
+  }

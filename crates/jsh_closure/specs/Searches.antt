@@ -1,5 +1,5 @@
 -- What a search along the edges keeps.
-use Rattle.std.specs.Prelude.{◌≡◌, ℕ, ◌+◌, ◌<◌, Bool, true, false, not, ◌||◌, ◌&&◌, List, [], length, count_by, nat_lt, slice_index_or, ◌⊎◌}
+use Rattle.std.specs.Prelude.{◌≡◌, ℕ, ◌+◌, ◌<◌, Bool, true, false, not, ◌||◌, ◌&&◌, List, length, count_by, nat_lt, slice_index_or, ◌⊎◌}
 use Rattle.jsh_closure.specs.Closure.{is_among, has_edge, closure}
 
 -- the places are marked, and those that weren't before wait

@@ -1,8 +1,9 @@
 //! The smallest set of places that holds some first ones and all that these lead to.
 #![tactic(auto)]
 
-ghost use Rattle.std.specs.Prelude.{◌≡◌, [], ◌∷◌, IfOk, OnOk, slice_get};
+ghost use Rattle.std.specs.Prelude.{◌≡◌, [], ◌∷◌, false, length, slice_get, slice_index_or, IfOk, OnOk};
 ghost use Rattle.jsh_closure.specs.Closure as spec;
+ghost use Rattle.jsh_closure.specs.Closure.{IsSmallest};
 ghost use Rattle.jsh_closure.specs.Searches.{Adds, IsSearch};
 
 use jsh_tree::Seq;
@@ -16,7 +17,8 @@ pub fn closure(
     first: &[usize],
     edges: &[Seq<usize>],
 ) -> Result<Vec<bool>, AllocError>
-    ensures { IfOk result (λ marks. marks.items ≡ spec.marks first.now edges.now) }
+    ensures marks { IfOk result (λ marks. marks.items ≡ spec.marks first.now edges.now) }
+    ensures smallest { IfOk result (λ marks. IsSmallest (length edges.now) (spec.is_among first.now) (spec.has_edge edges.now) (λ place. slice_index_or marks.items place false)) }
 {
     let mut marks = Vec::from_elem(alloc, false, edges.len())?;
     let mut waiting = Vec::new(alloc);

@@ -36,19 +36,19 @@ all_but_last parts = take (length parts - 1) parts
 
 -- `import package.name;` (JLS 7.5.1)
 abbrev pub single_type_import : List ℕ → Option (List ℕ) → List Imported
-single_type_import package None = []
-single_type_import package (Some name) = imported.OfType package name ∷ []
+single_type_import qualifier None = []
+single_type_import qualifier (Some name) = imported.OfType qualifier name ∷ []
 
 -- `import static package.type.*;` (JLS 7.5.4)
 abbrev pub static_import_on_demand : List ℕ → Option (List ℕ) → List Imported
-static_import_on_demand package None = []
-static_import_on_demand package (Some type) = imported.OfStatics package type ∷ []
+static_import_on_demand qualifier None = []
+static_import_on_demand qualifier (Some type) = imported.OfStatics qualifier type ∷ []
 
 -- `import static package.type.name;` (JLS 7.5.3)
 abbrev pub single_static_import : List ℕ → Option (List ℕ) → Option (List ℕ) → List Imported
-single_static_import package None _ = []
-single_static_import package (Some type) None = []
-single_static_import package (Some type) (Some name) = imported.OfStatic package type name ∷ []
+single_static_import qualifier None _ = []
+single_static_import qualifier (Some type) None = []
+single_static_import qualifier (Some type) (Some name) = imported.OfStatic qualifier type name ∷ []
 
 -- an import that isn't static
 abbrev pub type_import : List (List ℕ) → Bool → List Imported
@@ -81,7 +81,7 @@ first_nonempty (first ∷ rest) others = first ∷ rest
 
 -- the type has both names
 abbrev pub is_named : List ℕ → List ℕ → LibraryType → Bool
-is_named package name type = same_name type.package package && same_name type.name name
+is_named qualifier name type = same_name type.package qualifier && same_name type.name name
 
 -- the constant of this name of a type
 abbrev pub constant_in : List ℕ → Option LibraryType → Option VarAnswer
@@ -101,34 +101,34 @@ methods_in name (Some type) = flat_map (static_method name type) type.methods
 
 module _ (library : Library) where
   abbrev pub named : List ℕ → List ℕ → Option LibraryType
-  named package name = find (is_named package name) library.types
+  named qualifier name = find (is_named qualifier name) library.types
 
   abbrev pub type_in : List ℕ → List ℕ → Option TypeAnswer
-  type_in package name = option_map (λ (type : LibraryType). type_answer.Library type) (named package name)
+  type_in qualifier name = option_map (λ (type : LibraryType). type_answer.Library type) (named qualifier name)
 
   module _ (name : List ℕ) where
     abbrev pub single_type : Imported → Option TypeAnswer
-    single_type (imported.OfType package found) = if same_name found name then type_in package name else None
+    single_type (imported.OfType qualifier found) = if same_name found name then type_in qualifier name else None
     single_type _ = None
 
     abbrev pub type_on_demand : Imported → Option TypeAnswer
-    type_on_demand (imported.OfPackage package) = type_in package name
+    type_on_demand (imported.OfPackage qualifier) = type_in qualifier name
     type_on_demand _ = None
 
     abbrev pub single_constant : Imported → Option VarAnswer
-    single_constant (imported.OfStatic package type found) = if same_name found name then constant_in name (named package type) else None
+    single_constant (imported.OfStatic qualifier type found) = if same_name found name then constant_in name (named qualifier type) else None
     single_constant _ = None
 
     abbrev pub constant_on_demand : Imported → Option VarAnswer
-    constant_on_demand (imported.OfStatics package type) = constant_in name (named package type)
+    constant_on_demand (imported.OfStatics qualifier type) = constant_in name (named qualifier type)
     constant_on_demand _ = None
 
     abbrev pub single_methods : Imported → List MethodAnswer
-    single_methods (imported.OfStatic package type found) = if same_name found name then methods_in name (named package type) else []
+    single_methods (imported.OfStatic qualifier type found) = if same_name found name then methods_in name (named qualifier type) else []
     single_methods _ = []
 
     abbrev pub methods_on_demand : Imported → List MethodAnswer
-    methods_on_demand (imported.OfStatics package type) = methods_in name (named package type)
+    methods_on_demand (imported.OfStatics qualifier type) = methods_in name (named qualifier type)
     methods_on_demand _ = []
 
     -- a type of the library: by a single import, else by one on demand, else of `java.lang` (JLS 6.4.1, 7.3)

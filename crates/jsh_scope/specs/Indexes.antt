@@ -33,9 +33,13 @@ pub record AppendsPlace (passes : List ℕ → Bool) (place : ℕ) (old new : BT
   pub places : (name : List ℕ) → places_at (found new name) ≡ places_at (found old name) ++ (if passes name then place ∷ [] else [])
 
 -- the parts of an environment that stand for its members
-pub record AreIndexes (members : List Member) (imports : List Imported) (types variables : BTreeMap (List ℕ) ℕ) (methods : BTreeMap (List ℕ) (List ℕ)) (edges : List (List ℕ)) : Type 0 where
+pub record AreIndexes (members : List Member) (imports : List Imported) (types variables : BTreeMap (List ℕ) ℕ) (methods : BTreeMap (List ℕ) (List ℕ)) : Type 0 where
   pub imports_are : imports ≡ imports_of members
   pub types_are : IsIndex is_type members types
   pub variables_are : IsIndex is_visible_variable members variables
   pub methods_are : IsIndexOfAll is_visible_method members members methods
-  pub edges_are : edges ≡ map (λ (member : Member). places_in members member.header) members
+
+-- the places of types by name, and for each of them the places of those that its header mentions
+pub record AreTypes (types : List Member) (places : BTreeMap (List ℕ) ℕ) (edges : List (List ℕ)) : Type 0 where
+  pub places_are : IsIndex is_type types places
+  pub edges_are : edges ≡ map (λ (type : Member). places_in types type.header) types

@@ -1,13 +1,13 @@
 -- Which types a header reaches through the types that it mentions.
-use Rattle.std.specs.Prelude.{ℕ, Bool, false, List, [], ◌∷◌, Option, Some, None, if◌then◌else◌, length, slice_get}
-use Rattle.std.specs.Option.{is_some}
+use Rattle.std.specs.Prelude.{ℕ, Bool, false, List, [], ◌∷◌, Option, Some, None, if◌then◌else◌, length, slice_get, slice_index_or}
+use Rattle.std.specs.Option.{option_to_list}
 use Rattle.std.specs.List.{flat_map, filter, position_from, range_with_len}
 use Rattle.jsh_tree.specs.declared.key.Header.{Header}
 use Rattle.jsh_tree.specs.declared.key.Link.{Link}
 use Rattle.jsh_tree.specs.declared.library.Member.{Member}
 use Rattle.jsh_snippet.specs.Mentions.{mentions}
 use Rattle.jsh_closure.specs.Closure.{closure, is_among}
-use Rattle.jsh_scope.specs.Scope.{is_type}
+use Rattle.jsh_scope.specs.Scope.{is_type, is_visible_type}
 
 -- a visible declaration
 pub record Linked : Type 0 where
@@ -29,43 +29,44 @@ abbrev pub linked : Header → Option Link → List Linked
 linked header None = []
 linked header (Some link) = record { link = link; header = header } ∷ []
 
--- the member at a place, where it is visible
 abbrev pub linked_at : Option Member → List Linked
 linked_at None = []
 linked_at (Some member) = linked member.header member.link
 
--- a member is there and is visible
-abbrev pub is_visible_at : Option Member → Bool
-is_visible_at None = false
-is_visible_at (Some member) = is_some member.link
+-- the visible types, by rising id
+unfoldable pub visible_types : List Member → List Member
+visible_types members = filter is_visible_type members
 
-module _ (members : List Member) where
-  -- a place, where the member there is visible
-  abbrev pub visible_places : Option ℕ → List ℕ
-  visible_places None = []
-  visible_places (Some place) = if is_visible_at (slice_get members place) then place ∷ [] else []
-
-  -- the place of the live type of this name, where it is visible
-  abbrev pub places_named : List ℕ → List ℕ
-  places_named name = visible_places (first_place (is_type name) members)
-
-  -- the places of the visible types that a header mentions, in its order
+module _ (types : List Member) where
+  -- the places of the types that a header mentions, in its order
   unfoldable pub places_in : Header → List ℕ
-  places_in header = flat_map places_named (mentions header)
+  places_in header = flat_map (λ (name : List ℕ). option_to_list (first_place (is_type name) types)) (mentions header)
 
-  -- the same of the member at a place
+  -- the same of the type at a place
   abbrev pub places_from : Option Member → List ℕ
   places_from None = []
-  places_from (Some member) = places_in member.header
+  places_from (Some type) = places_in type.header
 
-  -- the header at the one place mentions the visible type at the other
+  -- the header at the one place mentions the type at the other
   abbrev pub leads : ℕ → ℕ → Bool
-  leads from to = is_among (places_from (slice_get members from)) to
+  leads from to = is_among (places_from (slice_get types from)) to
 
-  -- the visible types that a header mentions, those that the headers of these mention, and so on
+  -- the types that a header mentions, those that the headers of these mention, and so on
   abbrev pub is_reached : Header → ℕ → Bool
-  is_reached header = closure (length members) (is_among (places_in header)) leads
+  is_reached header = closure (length types) (is_among (places_in header)) leads
+
+  -- a type, where its place passes
+  abbrev pub linked_where : (ℕ → Bool) → ℕ → List Linked
+  linked_where passes place = if passes place then linked_at (slice_get types place) else []
+
+  -- the types whose place is marked
+  unfoldable pub marked_types : List Bool → List Linked
+  marked_types marks = flat_map (linked_where (λ (place : ℕ). slice_index_or marks place false)) (range_with_len 0 (length marks))
 
   -- each of them once, by rising id
-  unfoldable pub reached : Header → List Linked
-  reached header = flat_map (λ (place : ℕ). if is_reached header place then linked_at (slice_get members place) else []) (range_with_len 0 (length members))
+  unfoldable pub reached_types : Header → List Linked
+  reached_types header = flat_map (linked_where (is_reached header)) (range_with_len 0 (length types))
+
+-- the visible types that a header reaches
+abbrev pub reached : List Member → Header → List Linked
+reached members header = reached_types (visible_types members) header

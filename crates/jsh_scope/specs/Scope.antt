@@ -1,5 +1,5 @@
 -- What an environment stands for, and how a name finds a member.
-use Rattle.std.specs.Prelude.{ℕ, Bool, false, List, Option, nat_eq, ◌&&◌}
+use Rattle.std.specs.Prelude.{ℕ, Bool, true, false, List, Option, nat_eq, ◌&&◌}
 use Rattle.std.specs.Option.{is_some}
 use Rattle.std.specs.Cmp.Lexicographic.{pointwise}
 use Rattle.jsh_tree.specs.declared.key.Key.{Key}
@@ -34,6 +34,15 @@ is_method_key name _ = false
 -- a live type of this name
 abbrev pub is_type : List ℕ → Member → Bool
 is_type name member = is_type_key name member.key
+
+-- the key of a type
+abbrev pub is_some_type_key : Key → Bool
+is_some_type_key (key.OfType found) = true
+is_some_type_key _ = false
+
+-- a visible type
+abbrev pub is_visible_type : Member → Bool
+is_visible_type member = is_some member.link && is_some_type_key member.key
 
 -- a visible variable of this name
 abbrev pub is_visible_variable : List ℕ → Member → Bool

@@ -1,10 +1,41 @@
 //! What an environment answers.
 
-ghost use Rattle.std.specs.Prelude.{◌≡◌};
+ghost use Rattle.std.specs.Prelude.{◌≡◌, IfOk};
 
 use crate::env::Env;
+use jsh_text::NoMemory;
 use jsh_tree::{Header, LibraryConstant, LibraryMethod, LibraryType, Link};
+use std::alloc::Global;
 use std::marker::Model;
+
+/// A visible declaration.
+#[derive(Drop)]
+pub struct Linked<'a> {
+    pub(crate) link: &'a Link,
+    pub(crate) header: &'a Header,
+}
+
+impl<'a> Model for Linked<'a> {
+    ghost use Rattle.jsh_scope.specs.Reached as spec;
+
+    ghost Value = { spec.Linked };
+
+    ghost view = { λ seen. record { link = seen.link.now; header = seen.header.now } };
+}
+
+impl<'a> Linked<'a> {
+    pub fn link(&self) -> &'a Link
+        ensures { result.now ≡ self.now.link }
+    {
+        self.link
+    }
+
+    pub fn header(&self) -> &'a Header
+        ensures { result.now ≡ self.now.header }
+    {
+        self.header
+    }
+}
 
 /// A visible declaration. Contracts see it with the headers of all types that its header reaches.
 #[derive(Drop)]
@@ -33,6 +64,13 @@ impl<'a> Visible<'a> {
         ensures { result.now ≡ self.now.header }
     {
         self.header
+    }
+
+    /// The visible types that its header reaches, each once, by rising id.
+    pub fn reached(&self, alloc: Global) -> Result<Vec<Linked<'a>>, NoMemory>
+        ensures { IfOk result (λ found. found.items ≡ self.now.reached) }
+    {
+        self.env.reached(alloc, self.header)
     }
 }
 
@@ -65,6 +103,21 @@ pub struct StaticConstant<'a> {
     pub(crate) constant: &'a LibraryConstant,
 }
 
+impl<'a> StaticConstant<'a> {
+    /// The type that has it.
+    pub fn of(&self) -> &'a LibraryType
+        ensures { result.now ≡ self.now.of }
+    {
+        self.of
+    }
+
+    pub fn constant(&self) -> &'a LibraryConstant
+        ensures { result.now ≡ self.now.constant }
+    {
+        self.constant
+    }
+}
+
 impl<'a> Model for StaticConstant<'a> {
     ghost use Rattle.jsh_scope.specs.Statics as spec;
 
@@ -78,6 +131,21 @@ impl<'a> Model for StaticConstant<'a> {
 pub struct StaticMethod<'a> {
     pub(crate) of: &'a LibraryType,
     pub(crate) method: &'a LibraryMethod,
+}
+
+impl<'a> StaticMethod<'a> {
+    /// The type that has it.
+    pub fn of(&self) -> &'a LibraryType
+        ensures { result.now ≡ self.now.of }
+    {
+        self.of
+    }
+
+    pub fn method(&self) -> &'a LibraryMethod
+        ensures { result.now ≡ self.now.method }
+    {
+        self.method
+    }
 }
 
 impl<'a> Model for StaticMethod<'a> {

@@ -4,12 +4,14 @@ ghost use Rattle.std.specs.Prelude.{◌≡◌, ◌++◌, IfOk, OnOk};
 ghost use Rattle.std.specs.Option.{option_copied, option_to_list};
 ghost use Rattle.std.specs.List.{find, flat_map, filter};
 ghost use Rattle.jsh_scope.specs.Scope.{is_type, is_visible_variable, is_visible_method};
+ghost use Rattle.jsh_scope.specs.Reached.{reached};
 ghost use Rattle.jsh_scope.specs.Answers as spec;
 
-use crate::answers::{MethodAnswer, TypeAnswer, VarAnswer, Visible};
+use crate::answers::{Linked, MethodAnswer, TypeAnswer, VarAnswer, Visible};
 use crate::imported::{Imported, imports_of};
-use crate::indexes::{edges_of, method_places, type_places, variable_places};
+use crate::indexes::{method_places, type_places, variable_places};
 use crate::library::{imported_constant, imported_methods, imported_type};
+use crate::reached::VisibleTypes;
 use jsh_text::NoMemory;
 use jsh_tree::{Header, Library, Link, Member, Name, Seq};
 use std::alloc::Global;
@@ -25,19 +27,19 @@ pub struct Env {
     types: BTreeMap<Name, usize>,
     variables: BTreeMap<Name, usize>,
     methods: BTreeMap<Name, Seq<usize>>,
-    /// For each member the places of the visible types that its header mentions.
-    edges: Seq<Seq<usize>>,
+    visible: VisibleTypes,
 }
 
 impl Model for Env {
     ghost use Rattle.jsh_scope.specs.Scope.{Scope};
+    ghost use Rattle.jsh_scope.specs.Reached.{visible_types};
     ghost use Rattle.jsh_scope.specs.Indexes.{AreIndexes};
 
     ghost Value = { Scope };
 
     ghost view = { λ env. record { members = env.members; library = env.library } };
 
-    ghost invariant = { λ env. AreIndexes env.members env.imports env.types env.variables env.methods env.edges };
+    ghost invariant = { λ env. AreIndexes env.members env.imports env.types env.variables env.methods × (env.visible ≡ visible_types env.members) };
 }
 
 impl Env {
@@ -45,22 +47,26 @@ impl Env {
     pub fn new(alloc: Global, members: &[Member], library: &Library) -> Result<Env, NoMemory>
         ensures { IfOk result (λ env. env ≡ record { members = members.now; library = library.now }) }
     {
-        let copies = copied(alloc, members)?;
-        let library = library.clone()?;
-        let imports = imports_of(alloc, members)?;
-        let types = type_places(alloc, members)?;
-        let variables = variable_places(alloc, members)?;
-        let methods = method_places(alloc, members)?;
-        let edges = edges_of(alloc, &types, members)?;
         Ok(Env {
-            members: copies,
-            library,
-            imports,
-            types,
-            variables,
-            methods,
-            edges,
+            members: copied(alloc, members)?,
+            library: library.clone()?,
+            imports: imports_of(alloc, members)?,
+            types: type_places(alloc, members)?,
+            variables: variable_places(alloc, members)?,
+            methods: method_places(alloc, members)?,
+            visible: VisibleTypes::new(alloc, members)?,
         })
+    }
+
+    /// The visible types that a header reaches, each once, by rising id.
+    pub(crate) fn reached(
+        &self,
+        alloc: Global,
+        header: &Header,
+    ) -> Result<Vec<Linked<'_>>, NoMemory>
+        ensures { IfOk result (λ found. found.items ≡ reached self.now.members header.now) }
+    {
+        self.visible.reached(alloc, header)
     }
 
     /// Which type the name is. It takes no memory.
@@ -110,7 +116,7 @@ impl Env {
     }
 
     fn member_at(&self, place: Option<&usize>) -> Option<&Member>
-        ensures { option_copied result ≡ spec.member_at self.now.members (option_copied place) }
+        ensures { option_copied result ≡ spec.member_at self.now.members (option_copied place.entry) }
     {
         match place {
             None => None,
@@ -119,7 +125,7 @@ impl Env {
     }
 
     fn type_of<'a>(&'a self, member: Option<&'a Member>) -> Option<TypeAnswer<'a>>
-        ensures { result ≡ spec.type_of self.now.members (option_copied member) }
+        ensures { result ≡ spec.type_of self.now.members (option_copied member.entry) }
     {
         match member {
             None => None,
@@ -131,7 +137,7 @@ impl Env {
     }
 
     fn variable_of<'a>(&'a self, member: Option<&'a Member>) -> Option<VarAnswer<'a>>
-        ensures { result ≡ spec.variable_of self.now.members (option_copied member) }
+        ensures { result ≡ spec.variable_of self.now.members (option_copied member.entry) }
     {
         match member {
             None => None,
@@ -176,7 +182,7 @@ impl Env {
         answers: &mut Vec<MethodAnswer<'a>>,
         member: Option<&'a Member>,
     ) -> Result<(), NoMemory>
-        ensures { OnOk result (answers.new.items ≡ answers.old.items ++ flat_map (spec.method_of self.now.members) (option_to_list (option_copied member))) }
+        ensures { OnOk result (answers.new.items ≡ answers.old.items ++ flat_map (spec.method_of self.now.members) (option_to_list (option_copied member.entry))) }
     {
         if let Some(member) = member {
             if let Some(link) = &member.link {

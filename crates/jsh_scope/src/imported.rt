@@ -14,13 +14,13 @@ use std::alloc::Global;
 #[derive(Debug, Drop)]
 pub(crate) enum Imported {
     /// `import package.name;`
-    OfType { package: Name, name: Name },
+    OfType { qualifier: Name, name: Name },
     /// `import package.*;`
-    OfPackage { package: Name },
+    OfPackage { qualifier: Name },
     /// `import static package.of.name;`
-    OfStatic { package: Name, of: Name, name: Name },
+    OfStatic { qualifier: Name, of: Name, name: Name },
     /// `import static package.of.*;`
-    OfStatics { package: Name, of: Name },
+    OfStatics { qualifier: Name, of: Name },
 }
 
 /// The live imports, by rising id.
@@ -62,12 +62,12 @@ fn push_type_import(
     ensures { OnOk result (imports.new.items ≡ imports.old.items ++ spec.type_import parts.now on_demand) }
 {
     if on_demand {
-        let package = joined(alloc, parts)?;
-        imports.push(Imported::OfPackage { package })?;
+        let qualifier = joined(alloc, parts)?;
+        imports.push(Imported::OfPackage { qualifier })?;
     } else if let Some(name) = last_part(parts) {
-        let package = joined(alloc, all_but_last(parts))?;
+        let qualifier = joined(alloc, all_but_last(parts))?;
         let name = name.clone()?;
-        imports.push(Imported::OfType { package, name })?;
+        imports.push(Imported::OfType { qualifier, name })?;
     }
     Ok(())
 }
@@ -95,9 +95,9 @@ fn push_static_import_on_demand(
     ensures { OnOk result (imports.new.items ≡ imports.old.items ++ spec.static_import_on_demand (spec.joined (spec.all_but_last parts.now)) (spec.last_part parts.now)) }
 {
     if let Some(of) = last_part(parts) {
-        let package = joined(alloc, all_but_last(parts))?;
+        let qualifier = joined(alloc, all_but_last(parts))?;
         let of = of.clone()?;
-        imports.push(Imported::OfStatics { package, of })?;
+        imports.push(Imported::OfStatics { qualifier, of })?;
     }
     Ok(())
 }
@@ -112,10 +112,10 @@ fn push_single_static_import(
     let owner = all_but_last(parts);
     if let Some(of) = last_part(owner) {
         if let Some(name) = last_part(parts) {
-            let package = joined(alloc, all_but_last(owner))?;
+            let qualifier = joined(alloc, all_but_last(owner))?;
             let of = of.clone()?;
             let name = name.clone()?;
-            imports.push(Imported::OfStatic { package, of, name })?;
+            imports.push(Imported::OfStatic { qualifier, of, name })?;
         }
     }
     Ok(())

@@ -1,10 +1,10 @@
 //! The maps by name of an environment.
 
-ghost use Rattle.std.specs.Prelude.{◌≡◌, ◌++◌, List, ℕ, map, slice_get, IfOk, OnOk};
-ghost use Rattle.std.specs.Option.{option_copied};
+ghost use Rattle.std.specs.Prelude.{◌≡◌, ◌++◌, List, ℕ, map, IfOk, OnOk};
+ghost use Rattle.std.specs.Option.{option_to_list};
 ghost use Rattle.std.specs.List.{flat_map};
 ghost use Rattle.jsh_tree.specs.declared.library.Member.{Member};
-ghost use Rattle.jsh_scope.specs.Scope.{same_name, is_type, is_visible_variable, is_visible_method};
+ghost use Rattle.jsh_scope.specs.Scope.{same_name, is_type, is_some_type_key, is_visible_type, is_visible_variable, is_visible_method};
 ghost use Rattle.jsh_scope.specs.Reached as spec;
 ghost use Rattle.jsh_scope.specs.Indexes.{IsIndex, IsIndexOfAll, AddsPlace, AppendsPlace};
 
@@ -130,63 +130,78 @@ fn append_place(
     Ok(())
 }
 
-/// For each member the places of the visible types that its header mentions.
+/// The visible types, by rising id.
+#[tactic(auto, unfolding(crate::specs::Reached::visible_types))]
+pub(crate) fn visible_types(alloc: Global, members: &[Member]) -> Result<Seq<Member>, NoMemory>
+    ensures { IfOk result (λ types. types ≡ spec.visible_types members.now) }
+{
+    let mut types = Vec::new(alloc);
+    for member in members {
+        if is_visible_type(member) {
+            types.push(member.clone()?)?;
+        }
+    }
+    Ok(Seq::from_vec(types))
+}
+
+fn is_visible_type(member: &Member) -> bool
+    ensures { result ≡ is_visible_type member.now }
+{
+    member.link.is_some() && is_type_key(&member.key)
+}
+
+fn is_type_key(key: &Key) -> bool
+    ensures { result ≡ is_some_type_key key.now }
+{
+    matches!(key, Key::OfType(_))
+}
+
+/// For each type the places of those that its header mentions.
 pub(crate) fn edges_of(
     alloc: Global,
-    types: &BTreeMap<Name, usize>,
-    members: &[Member],
+    places: &BTreeMap<Name, usize>,
+    types: &[Member],
 ) -> Result<Seq<Seq<usize>>, NoMemory>
-    requires { IsIndex is_type members.now types.now }
-    ensures { IfOk result (λ edges. edges ≡ map (λ (member : Member). spec.places_in members.now member.header) members.now) }
+    requires { IsIndex is_type types.now places.now }
+    ensures { IfOk result (λ edges. edges ≡ map (λ (member : Member). spec.places_in types.now member.header) types.now) }
 {
-    let mut edges = Vec::with_capacity(alloc, members.len())?;
-    for member in members {
-        edges.push(places_in(alloc, types, members, &member.header)?)?;
+    let mut edges = Vec::with_capacity(alloc, types.len())?;
+    for member in types {
+        edges.push(places_in(alloc, places, types, &member.header)?)?;
     }
     Ok(Seq::from_vec(edges))
 }
 
-/// The places of the visible types that a header mentions, in its order.
+/// The places of the types that a header mentions, in its order.
 #[tactic(auto, unfolding(crate::specs::Reached::places_in))]
 pub(crate) fn places_in(
     alloc: Global,
-    types: &BTreeMap<Name, usize>,
-    members: &[Member],
+    places: &BTreeMap<Name, usize>,
+    types: &[Member],
     header: &Header,
 ) -> Result<Seq<usize>, NoMemory>
-    requires { IsIndex is_type members.now types.now }
-    ensures { IfOk result (λ places. places ≡ spec.places_in members.now header.now) }
+    requires { IsIndex is_type types.now places.now }
+    ensures { IfOk result (λ found. found ≡ spec.places_in types.now header.now) }
 {
     let names = mentions(alloc, header)?;
-    let mut places = Vec::new(alloc);
+    let mut found = Vec::new(alloc);
     for name in names.as_slice() {
-        push_visible(&mut places, types, members, name)?;
+        push_place(&mut found, places, types, name)?;
     }
-    Ok(Seq::from_vec(places))
+    Ok(Seq::from_vec(found))
 }
 
-fn push_visible(
-    places: &mut Vec<usize>,
-    types: &BTreeMap<Name, usize>,
-    members: &[Member],
+fn push_place(
+    found: &mut Vec<usize>,
+    places: &BTreeMap<Name, usize>,
+    types: &[Member],
     name: &Name,
 ) -> Result<(), NoMemory>
-    requires { IsIndex is_type members.now types.now }
-    ensures { OnOk result (places.new.items ≡ places.old.items ++ spec.places_named members.now name.now) }
+    requires { IsIndex is_type types.now places.now }
+    ensures { OnOk result (found.new.items ≡ found.old.items ++ option_to_list (spec.first_place (is_type name.now) types.now)) }
 {
-    if let Some(place) = types.get(name) {
-        if is_visible(members, *place) {
-            places.push(*place)?;
-        }
+    if let Some(place) = places.get(name) {
+        found.push(*place)?;
     }
     Ok(())
-}
-
-fn is_visible(members: &[Member], place: usize) -> bool
-    ensures { result ≡ spec.is_visible_at (slice_get members.now place) }
-{
-    match members.get(place) {
-        Some(member) => member.link.is_some(),
-        None => false,
-    }
 }

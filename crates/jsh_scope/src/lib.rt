@@ -7,6 +7,7 @@ mod env;
 mod imported;
 mod indexes;
 mod library;
+mod reached;
 
-pub use answers::{LibraryAnswer, MethodAnswer, StaticConstant, StaticMethod, TypeAnswer, VarAnswer, Visible};
+pub use answers::{LibraryAnswer, Linked, MethodAnswer, StaticConstant, StaticMethod, TypeAnswer, VarAnswer, Visible};
 pub use env::Env;

@@ -15,26 +15,26 @@ use jsh_text::NoMemory;
 use jsh_tree::{Library, LibraryConstant, LibraryMethod, LibraryType, Name};
 use std::alloc::Global;
 
-fn is_named(found: &LibraryType, package: &str, name: &Name) -> bool
-    ensures { result ≡ spec.is_named package.now name.now found.now }
+fn is_named(found: &LibraryType, qualifier: &str, name: &Name) -> bool
+    ensures { result ≡ spec.is_named qualifier.now name.now found.now }
 {
-    found.package.as_str() == package && found.name == *name
+    found.package.as_str() == qualifier && found.name == *name
 }
 
-fn named<'a>(library: &'a Library, package: &str, name: &Name) -> Option<&'a LibraryType>
-    ensures { option_copied result ≡ spec.named library.now package.now name.now }
+fn named<'a>(library: &'a Library, qualifier: &str, name: &Name) -> Option<&'a LibraryType>
+    ensures { option_copied result ≡ spec.named library.now qualifier.now name.now }
 {
     library
         .types
         .as_slice()
         .iter()
-        .find(|found| is_named(found, package, name))
+        .find(|found| is_named(found, qualifier, name))
 }
 
-fn type_in<'a>(library: &'a Library, package: &str, name: &Name) -> Option<TypeAnswer<'a>>
-    ensures { result ≡ spec.type_in library.now package.now name.now }
+fn type_in<'a>(library: &'a Library, qualifier: &str, name: &Name) -> Option<TypeAnswer<'a>>
+    ensures { result ≡ spec.type_in library.now qualifier.now name.now }
 {
-    match named(library, package, name) {
+    match named(library, qualifier, name) {
         None => None,
         Some(found) => Some(TypeAnswer::Library(LibraryAnswer { found })),
     }
@@ -83,11 +83,11 @@ fn single_type<'a>(
 {
     match import {
         Imported::OfType {
-            package,
+            qualifier,
             name: found,
         } => {
             if *found == *name {
-                type_in(library, package.as_str(), name)
+                type_in(library, qualifier.as_str(), name)
             } else {
                 None
             }
@@ -120,7 +120,7 @@ fn type_on_demand<'a>(
     ensures { result ≡ spec.type_on_demand library.now name.now import.now }
 {
     match import {
-        Imported::OfPackage { package } => type_in(library, package.as_str(), name),
+        Imported::OfPackage { qualifier } => type_in(library, qualifier.as_str(), name),
         _ => None,
     }
 }
@@ -151,7 +151,7 @@ fn constant_of<'a>(found: &'a LibraryType, name: &Name) -> Option<&'a LibraryCon
 }
 
 fn constant_in<'a>(name: &Name, found: Option<&'a LibraryType>) -> Option<VarAnswer<'a>>
-    ensures { result ≡ spec.constant_in name.now (option_copied found) }
+    ensures { result ≡ spec.constant_in name.now (option_copied found.entry) }
 {
     match found {
         None => None,
@@ -187,12 +187,12 @@ fn single_constant<'a>(
 {
     match import {
         Imported::OfStatic {
-            package,
+            qualifier,
             of,
             name: found,
         } => {
             if *found == *name {
-                constant_in(name, named(library, package.as_str(), of))
+                constant_in(name, named(library, qualifier.as_str(), of))
             } else {
                 None
             }
@@ -225,8 +225,8 @@ fn constant_on_demand<'a>(
     ensures { result ≡ spec.constant_on_demand library.now name.now import.now }
 {
     match import {
-        Imported::OfStatics { package, of } => {
-            constant_in(name, named(library, package.as_str(), of))
+        Imported::OfStatics { qualifier, of } => {
+            constant_in(name, named(library, qualifier.as_str(), of))
         }
         _ => None,
     }
@@ -274,12 +274,12 @@ fn push_single_methods<'a>(
 {
     match import {
         Imported::OfStatic {
-            package,
+            qualifier,
             of,
             name: imported,
         } => {
             if *imported == *name {
-                push_methods(found, name, named(library, package.as_str(), of))
+                push_methods(found, name, named(library, qualifier.as_str(), of))
             } else {
                 Ok(())
             }
@@ -312,8 +312,8 @@ fn push_methods_on_demand<'a>(
     ensures { OnOk result (found.new.items ≡ found.old.items ++ spec.methods_on_demand library.now name.now import.now) }
 {
     match import {
-        Imported::OfStatics { package, of } => {
-            push_methods(found, name, named(library, package.as_str(), of))
+        Imported::OfStatics { qualifier, of } => {
+            push_methods(found, name, named(library, qualifier.as_str(), of))
         }
         _ => Ok(()),
     }
@@ -324,7 +324,7 @@ fn push_methods<'a>(
     name: &Name,
     of: Option<&'a LibraryType>,
 ) -> Result<(), NoMemory>
-    ensures { OnOk result (found.new.items ≡ found.old.items ++ spec.methods_in name.now (option_copied of)) }
+    ensures { OnOk result (found.new.items ≡ found.old.items ++ spec.methods_in name.now (option_copied of.entry)) }
 {
     match of {
         None => Ok(()),

@@ -1,8 +1,8 @@
-use Rattle.std.proofs.Common.{◌≡◌, ℕ, false, Bool, List, [], ◌∷◌, ◌++◌, ◌-◌, length, take, get_or, refl, sym, ◌∙◌, ap, subst}
+use Rattle.std.proofs.Common.{◌≡◌, ℕ, false, Bool, List, [], ◌++◌, ◌-◌, length, take, get_or, sym, ◌∙◌, ap, subst}
 use Rattle.std.proofs.Math.ListN.{replicate, length-replicate}
-use Rattle.jsh_closure.specs.Closure.{places_at}
+use Rattle.jsh_closure.specs.Closure.{is_among, has_edge, marks, IsSmallest}
 use Rattle.jsh_closure.specs.Searches.{Adds, IsSearch}
-use Rattle.jsh_closure.proofs.Searching.{blank, begin, follow, end}
+use Rattle.jsh_closure.proofs.Searching.{blank, begin, follow, end, is_smallest}
 use Rattle.jsh_closure.proofs.closure.Goals as goal
 
 pub loop-place-init : goal.loop-place-init
@@ -29,5 +29,9 @@ returns c =
     let edges = c.args.edges.now in
     let popped = c.in_default.ensures in
     let gone : c.pop.new.self.items ≡ [] = popped.rest ∙ ap (λ (n : ℕ). take (n - 1) c.loop-place.waiting.items) popped.cases.0 in
-    end first edges c.loop-place.marks.items
-        (subst (λ (w : List ℕ). IsSearch first edges c.loop-place.marks.items w) (popped.items ∙ ap (λ (w : List ℕ). w ++ []) gone) c.loop-place.invariant)
+    let found : c.loop-place.marks.items ≡ marks first edges = end first edges c.loop-place.marks.items
+        (subst (λ (w : List ℕ). IsSearch first edges c.loop-place.marks.items w) (popped.items ∙ ap (λ (w : List ℕ). w ++ []) gone) c.loop-place.invariant) in
+    record {
+      marks = found;
+      smallest = subst (λ (m : List Bool). IsSmallest (length edges) (is_among first) (has_edge edges) (λ place. get_or m place false)) (sym found) (is_smallest first edges);
+    }
