@@ -1,3 +1,4 @@
-pub mod Given
+pub mod Importing
 pub mod Places
 pub mod Names
+pub mod Agreement

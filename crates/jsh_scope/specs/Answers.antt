@@ -12,18 +12,18 @@ use Rattle.jsh_scope.specs.declared.answers.VarAnswer.TheVariants as var_answer
 use Rattle.jsh_scope.specs.declared.answers.MethodAnswer.{MethodAnswer}
 use Rattle.jsh_scope.specs.declared.answers.MethodAnswer.TheVariants as method_answer
 use Rattle.jsh_scope.specs.Scope.{Scope, is_type, is_visible_variable, is_visible_method}
-use Rattle.jsh_scope.specs.Reached.{Visible, reached}
+use Rattle.jsh_scope.specs.Reached.{Visible, visible_types, reached_types}
 use Rattle.jsh_scope.specs.Imports.{imports_of, imported_type, imported_constant, imported_methods, first_nonempty}
 
-module _ (members : List Member) where
-  -- the member at a place
-  abbrev pub member_at : Option ℕ → Option Member
-  member_at None = None
-  member_at (Some place) = slice_get members place
+-- the member at a place
+abbrev pub member_at : List Member → Option ℕ → Option Member
+member_at members None = None
+member_at members (Some place) = slice_get members place
 
-  -- a declaration with this link and header
+module _ (types : List Member) where
+  -- a declaration with this link and header, where these types are visible
   abbrev pub visible : Header → Link → Visible
-  visible header link = record { link = link; header = header; reached = reached members header }
+  visible header link = record { link = link; header = header; reached = reached_types types header }
 
   -- a live type, which hides what imports give also where it isn't visible
   abbrev pub live_type : Header → Option Link → TypeAnswer
@@ -50,23 +50,23 @@ module _ (members : List Member) where
   method_of member = method member.header member.link
 
   -- the method at a place
-  abbrev pub method_at : ℕ → List MethodAnswer
-  method_at place = flat_map method_of (option_to_list (slice_get members place))
+  abbrev pub method_at : List Member → ℕ → List MethodAnswer
+  method_at members place = flat_map method_of (option_to_list (slice_get members place))
 
 -- a live type, else what the imports and `java.lang` give
 unfoldable pub type_named : Scope → List ℕ → Option TypeAnswer
 type_named scope name = option_or
-    (type_of scope.members (find (is_type name) scope.members))
+    (type_of (visible_types scope.members) (find (is_type name) scope.members))
     (imported_type scope.library name (imports_of scope.members))
 
 -- a visible variable, else what the static imports give
 unfoldable pub var_named : Scope → List ℕ → Option VarAnswer
 var_named scope name = option_or
-    (variable_of scope.members (find (is_visible_variable name) scope.members))
+    (variable_of (visible_types scope.members) (find (is_visible_variable name) scope.members))
     (imported_constant scope.library name (imports_of scope.members))
 
 -- the visible methods by rising id, else what the static imports give
 unfoldable pub methods_named : Scope → List ℕ → List MethodAnswer
 methods_named scope name = first_nonempty
-    (flat_map (method_of scope.members) (filter (is_visible_method name) scope.members))
+    (flat_map (method_of (visible_types scope.members)) (filter (is_visible_method name) scope.members))
     (imported_methods scope.library name (imports_of scope.members))

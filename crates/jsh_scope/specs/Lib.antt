@@ -4,3 +4,5 @@ pub mod Statics
 pub mod Imports
 pub mod Answers
 pub mod Indexes
+pub mod Queries
+pub mod Asking

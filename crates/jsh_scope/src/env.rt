@@ -4,7 +4,7 @@ ghost use Rattle.std.specs.Prelude.{◌≡◌, ◌++◌, IfOk, OnOk};
 ghost use Rattle.std.specs.Option.{option_copied, option_to_list};
 ghost use Rattle.std.specs.List.{find, flat_map, filter};
 ghost use Rattle.jsh_scope.specs.Scope.{is_type, is_visible_variable, is_visible_method};
-ghost use Rattle.jsh_scope.specs.Reached.{reached};
+ghost use Rattle.jsh_scope.specs.Reached.{reached, visible_types};
 ghost use Rattle.jsh_scope.specs.Answers as spec;
 
 use crate::answers::{Linked, MethodAnswer, TypeAnswer, VarAnswer, Visible};
@@ -31,6 +31,7 @@ pub struct Env {
 }
 
 impl Model for Env {
+    ghost use Rattle.std.specs.Prelude.{◌≡◌};
     ghost use Rattle.jsh_scope.specs.Scope.{Scope};
     ghost use Rattle.jsh_scope.specs.Reached.{visible_types};
     ghost use Rattle.jsh_scope.specs.Indexes.{AreIndexes};
@@ -125,7 +126,7 @@ impl Env {
     }
 
     fn type_of<'a>(&'a self, member: Option<&'a Member>) -> Option<TypeAnswer<'a>>
-        ensures { result ≡ spec.type_of self.now.members (option_copied member.entry) }
+        ensures { result ≡ spec.type_of (visible_types self.now.members) (option_copied member.entry) }
     {
         match member {
             None => None,
@@ -137,7 +138,7 @@ impl Env {
     }
 
     fn variable_of<'a>(&'a self, member: Option<&'a Member>) -> Option<VarAnswer<'a>>
-        ensures { result ≡ spec.variable_of self.now.members (option_copied member.entry) }
+        ensures { result ≡ spec.variable_of (visible_types self.now.members) (option_copied member.entry) }
     {
         match member {
             None => None,
@@ -149,7 +150,7 @@ impl Env {
     }
 
     fn visible<'a>(&'a self, header: &'a Header, link: &'a Link) -> Visible<'a>
-        ensures { result ≡ spec.visible self.now.members header.now link.now }
+        ensures { result ≡ spec.visible (visible_types self.now.members) header.now link.now }
     {
         Visible {
             link,
@@ -159,7 +160,7 @@ impl Env {
     }
 
     fn live_methods(&self, alloc: Global, name: &Name) -> Result<Vec<MethodAnswer<'_>>, NoMemory>
-        ensures { IfOk result (λ answers. answers.items ≡ flat_map (spec.method_of self.now.members) (filter (is_visible_method name.now) self.now.members)) }
+        ensures { IfOk result (λ answers. answers.items ≡ flat_map (spec.method_of (visible_types self.now.members)) (filter (is_visible_method name.now) self.now.members)) }
     {
         match self.methods.get(name) {
             None => Ok(Vec::new(alloc)),
@@ -168,7 +169,7 @@ impl Env {
     }
 
     fn methods_at(&self, alloc: Global, places: &[usize]) -> Result<Vec<MethodAnswer<'_>>, NoMemory>
-        ensures { IfOk result (λ answers. answers.items ≡ flat_map (spec.method_at self.now.members) places.now) }
+        ensures { IfOk result (λ answers. answers.items ≡ flat_map (spec.method_at (visible_types self.now.members) self.now.members) places.now) }
     {
         let mut answers = Vec::new(alloc);
         for place in places {
@@ -182,7 +183,7 @@ impl Env {
         answers: &mut Vec<MethodAnswer<'a>>,
         member: Option<&'a Member>,
     ) -> Result<(), NoMemory>
-        ensures { OnOk result (answers.new.items ≡ answers.old.items ++ flat_map (spec.method_of self.now.members) (option_to_list (option_copied member.entry))) }
+        ensures { OnOk result (answers.new.items ≡ answers.old.items ++ flat_map (spec.method_of (visible_types self.now.members)) (option_to_list (option_copied member.entry))) }
     {
         if let Some(member) = member {
             if let Some(link) = &member.link {

@@ -3,11 +3,15 @@
 #![tactic(auto)]
 
 mod answers;
+mod asked;
 mod env;
 mod imported;
 mod indexes;
+mod laws;
 mod library;
 mod reached;
 
 pub use answers::{LibraryAnswer, Linked, MethodAnswer, StaticConstant, StaticMethod, TypeAnswer, VarAnswer, Visible};
+pub use asked::{Asked, AttrError, Footprint};
 pub use env::Env;
+pub use laws::{answers_stay, readers_agree};
