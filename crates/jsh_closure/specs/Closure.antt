@@ -43,3 +43,11 @@ has_edge edges from to = is_among (places_at (slice_get edges from)) to
 -- for each place, whether it is in the closure of the first ones along the edges
 abbrev pub marks : List ℕ → List (List ℕ) → List Bool
 marks first edges = map (closure (length edges) (is_among first) (has_edge edges)) (range_with_len 0 (length edges))
+
+-- what stands for the other place has the one
+abbrev pub has_edge_back : List (List ℕ) → ℕ → ℕ → Bool
+has_edge_back edges from to = has_edge edges to from
+
+-- for each place, whether it is in the closure of the first ones against the edges
+abbrev pub marks_back : List ℕ → List (List ℕ) → List Bool
+marks_back first edges = map (closure (length edges) (is_among first) (has_edge_back edges)) (range_with_len 0 (length edges))
