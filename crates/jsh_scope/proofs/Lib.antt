@@ -2,3 +2,4 @@ pub mod Importing
 pub mod Places
 pub mod Names
 pub mod Agreement
+pub mod Reaching

@@ -80,3 +80,11 @@ member_found p members =
     here : (b : Bool) → nat_lt (position_or_len p members) (length members) ≡ b → member_at members (cond b (Some (position_or_len p members)) None) ≡ slice_get members (position_or_len p members)
     here true e = refl
     here false e = sym (slice_get_past members (position_or_len p members) (ltb-false (position_or_len p members) (length members) e))
+
+pub flat_map_twice : {X Y Z : Type 0} (g : Y → List Z) (f : X → List Y) (xs : List X) → flat_map (λ (x : X). flat_map g (f x)) xs ≡ flat_map g (flat_map f xs)
+flat_map_twice g f [] = refl
+flat_map_twice {X} {Y} {Z} g f (x ∷ xs) = ap (λ (rest : List Z). flat_map g (f x) ++ rest) (flat_map_twice g f xs) ∙ sym (flat_map-append g (f x) (flat_map f xs))
+
+pub filter_more : (p : Member → Bool) (xs : List Member) (k : ℕ) (x : Member) → k < length xs → x ≡ get_or xs k x → filter p (take (k + 1) xs) ≡ filter p (take k xs) ++ filter p (x ∷ [])
+filter_more p xs k x below is =
+    ap (filter p) (take_more xs k x below) ∙ filter-append p (take k xs) (get_or xs k x ∷ []) ∙ ap (λ (y : Member). filter p (take k xs) ++ filter p (y ∷ [])) (sym is)

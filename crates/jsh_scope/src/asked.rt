@@ -86,7 +86,7 @@ impl<'a> Asked<'a> {
     }
 
     pub fn into_footprint(self) -> Footprint
-        ensures { result ≡ self.asked }
+        ensures { result ≡ self.entry.asked }
     {
         let Asked { env: _, asked } = self;
         Seq::from_vec(asked)

@@ -3,11 +3,13 @@
 ghost use Rattle.std.specs.Prelude.{◌≡◌, ◌++◌, IfOk, OnOk};
 ghost use Rattle.std.specs.Option.{option_copied, option_to_list};
 ghost use Rattle.std.specs.List.{find, flat_map, filter};
+ghost use Rattle.jsh_closure.specs.Closure.{places_at};
 ghost use Rattle.jsh_scope.specs.Scope.{is_type, is_visible_variable, is_visible_method};
 ghost use Rattle.jsh_scope.specs.Reached.{reached, visible_types};
 ghost use Rattle.jsh_scope.specs.Answers as spec;
 
 use crate::answers::{Linked, MethodAnswer, TypeAnswer, VarAnswer, Visible};
+use crate::copies::{copied, library_copy};
 use crate::imported::{Imported, imports_of};
 use crate::indexes::{method_places, type_places, variable_places};
 use crate::library::{imported_constant, imported_methods, imported_type};
@@ -50,7 +52,7 @@ impl Env {
     {
         Ok(Env {
             members: copied(alloc, members)?,
-            library: library.clone()?,
+            library: library_copy(library)?,
             imports: imports_of(alloc, members)?,
             types: type_places(alloc, members)?,
             variables: variable_places(alloc, members)?,
@@ -162,10 +164,9 @@ impl Env {
     fn live_methods(&self, alloc: Global, name: &Name) -> Result<Vec<MethodAnswer<'_>>, NoMemory>
         ensures { IfOk result (λ answers. answers.items ≡ flat_map (spec.method_of (visible_types self.now.members)) (filter (is_visible_method name.now) self.now.members)) }
     {
-        match self.methods.get(name) {
-            None => Ok(Vec::new(alloc)),
-            Some(places) => self.methods_at(alloc, places.as_slice()),
-        }
+        let places = places_found(self.methods.get(name));
+        let methods = self.methods_at(alloc, places)?;
+        Ok(methods)
     }
 
     fn methods_at(&self, alloc: Global, places: &[usize]) -> Result<Vec<MethodAnswer<'_>>, NoMemory>
@@ -194,12 +195,11 @@ impl Env {
     }
 }
 
-fn copied(alloc: Global, members: &[Member]) -> Result<Seq<Member>, NoMemory>
-    ensures { IfOk result (λ copies. copies ≡ members.now) }
+fn places_found(found: Option<&Seq<usize>>) -> &[usize]
+    ensures { result.now ≡ places_at (option_copied found.entry) }
 {
-    let mut copies = Vec::with_capacity(alloc, members.len())?;
-    for member in members {
-        copies.push(member.clone()?)?;
+    match found {
+        Some(places) => places.as_slice(),
+        None => &[],
     }
-    Ok(Seq::from_vec(copies))
 }

@@ -1,13 +1,15 @@
 //! The maps by name of an environment.
 
-ghost use Rattle.std.specs.Prelude.{◌≡◌, ◌++◌, List, ℕ, map, IfOk, OnOk};
+ghost use Rattle.std.specs.Prelude.{◌≡◌, [], ◌∷◌, ◌++◌, List, ℕ, map, IfOk, OnOk};
 ghost use Rattle.std.specs.Option.{option_to_list};
-ghost use Rattle.std.specs.List.{flat_map};
+ghost use Rattle.std.specs.List.{filter};
+ghost use Rattle.jsh_closure.specs.Closure.{places_at};
 ghost use Rattle.jsh_tree.specs.declared.library.Member.{Member};
 ghost use Rattle.jsh_scope.specs.Scope.{same_name, is_type, is_some_type_key, is_visible_type, is_visible_variable, is_visible_method};
 ghost use Rattle.jsh_scope.specs.Reached as spec;
 ghost use Rattle.jsh_scope.specs.Indexes.{IsIndex, IsIndexOfAll, AddsPlace, AppendsPlace};
 
+use crate::copies::member_copy;
 use jsh_snippet::mentions;
 use jsh_text::NoMemory;
 use jsh_tree::{Header, Key, Member, Name, Seq};
@@ -120,14 +122,21 @@ fn append_place(
 ) -> Result<(), NoMemory>
     ensures { OnOk result (AppendsPlace (λ other. same_name other name.now) at places.old places.new) }
 {
-    let mut list = match places.remove(name) {
-        Some(list) => list.into_vec(),
-        None => Vec::new(alloc),
-    };
+    let removed = places.remove(name);
+    let mut list = listed(alloc, removed);
     list.push(at)?;
     let name = name.clone()?;
     places.insert(name, Seq::from_vec(list))?;
     Ok(())
+}
+
+fn listed(alloc: Global, list: Option<Seq<usize>>) -> Vec<usize>
+    ensures { result.items ≡ places_at list }
+{
+    match list {
+        Some(list) => list.into_vec(),
+        None => Vec::new(alloc),
+    }
 }
 
 /// The visible types, by rising id.
@@ -137,11 +146,18 @@ pub(crate) fn visible_types(alloc: Global, members: &[Member]) -> Result<Seq<Mem
 {
     let mut types = Vec::new(alloc);
     for member in members {
-        if is_visible_type(member) {
-            types.push(member.clone()?)?;
-        }
+        push_visible_type(&mut types, member)?;
     }
     Ok(Seq::from_vec(types))
+}
+
+fn push_visible_type(types: &mut Vec<Member>, member: &Member) -> Result<(), NoMemory>
+    ensures { OnOk result (types.new.items ≡ types.old.items ++ filter is_visible_type (member.now ∷ [])) }
+{
+    if is_visible_type(member) {
+        types.push(member_copy(member)?)?;
+    }
+    Ok(())
 }
 
 fn is_visible_type(member: &Member) -> bool
@@ -154,6 +170,14 @@ fn is_type_key(key: &Key) -> bool
     ensures { result ≡ is_some_type_key key.now }
 {
     matches!(key, Key::OfType(_))
+}
+
+/// For each member the places of the types among these members that its header mentions, in its order.
+pub fn mentioned_types(alloc: Global, members: &[Member]) -> Result<Seq<Seq<usize>>, NoMemory>
+    ensures { IfOk result (λ edges. edges ≡ map (λ (member : Member). spec.places_in members.now member.header) members.now) }
+{
+    let places = type_places(alloc, members)?;
+    edges_of(alloc, &places, members)
 }
 
 /// For each type the places of those that its header mentions.

@@ -4,6 +4,7 @@
 
 mod answers;
 mod asked;
+mod copies;
 mod env;
 mod imported;
 mod indexes;
@@ -14,4 +15,5 @@ mod reached;
 pub use answers::{LibraryAnswer, Linked, MethodAnswer, StaticConstant, StaticMethod, TypeAnswer, VarAnswer, Visible};
 pub use asked::{Asked, AttrError, Footprint};
 pub use env::Env;
+pub use indexes::mentioned_types;
 pub use laws::{answers_stay, readers_agree};

@@ -67,9 +67,7 @@ fn last_single_type<'a>(
 {
     let mut last = None;
     for import in imports {
-        if let Some(answer) = single_type(library, name, import) {
-            last = Some(answer);
-        }
+        last = single_type(library, name, import).or(last);
     }
     last
 }
@@ -105,9 +103,7 @@ fn last_type_on_demand<'a>(
 {
     let mut last = None;
     for import in imports {
-        if let Some(answer) = type_on_demand(library, name, import) {
-            last = Some(answer);
-        }
+        last = type_on_demand(library, name, import).or(last);
     }
     last
 }
@@ -171,9 +167,7 @@ fn last_single_constant<'a>(
 {
     let mut last = None;
     for import in imports {
-        if let Some(answer) = single_constant(library, name, import) {
-            last = Some(answer);
-        }
+        last = single_constant(library, name, import).or(last);
     }
     last
 }
@@ -210,9 +204,7 @@ fn last_constant_on_demand<'a>(
 {
     let mut last = None;
     for import in imports {
-        if let Some(answer) = constant_on_demand(library, name, import) {
-            last = Some(answer);
-        }
+        last = constant_on_demand(library, name, import).or(last);
     }
     last
 }

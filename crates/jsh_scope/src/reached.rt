@@ -1,6 +1,6 @@
 //! Which types a header reaches.
 
-ghost use Rattle.std.specs.Prelude.{◌≡◌, ◌++◌, slice_get, IfOk, OnOk};
+ghost use Rattle.std.specs.Prelude.{◌≡◌, [], ◌++◌, if◌then◌else◌, IfOk, OnOk};
 ghost use Rattle.std.specs.Option.{option_copied};
 ghost use Rattle.jsh_scope.specs.Reached as spec;
 
@@ -59,7 +59,8 @@ impl VisibleTypes {
     {
         let first = places_in(alloc, &self.places, self.types.as_slice(), header)?;
         let marks = closure(alloc, first.as_slice(), self.edges.as_slice())?;
-        self.marked(alloc, marks.as_slice())
+        let found = self.marked(alloc, marks.as_slice())?;
+        Ok(found)
     }
 
     fn marked(&self, alloc: Global, marks: &[bool]) -> Result<Vec<Linked<'_>>, NoMemory>
@@ -67,12 +68,23 @@ impl VisibleTypes {
     {
         let mut found = Vec::new(alloc);
         for (place, mark) in marks.iter().enumerate() {
-            if *mark {
-                push_linked(&mut found, self.types.get(place))?;
-            }
+            push_marked(&mut found, *mark, self.types.get(place))?;
         }
         Ok(found)
     }
+}
+
+fn push_marked<'a>(
+    found: &mut Vec<Linked<'a>>,
+    mark: bool,
+    member: Option<&'a Member>,
+) -> Result<(), NoMemory>
+    ensures { OnOk result (found.new.items ≡ found.old.items ++ (if mark then spec.linked_at (option_copied member.entry) else [])) }
+{
+    if mark {
+        push_linked(found, member)?;
+    }
+    Ok(())
 }
 
 fn push_linked<'a>(

@@ -5,4 +5,4 @@ use Rattle.jsh_scope.specs.Reached.{first_place}
 use Rattle.jsh_scope.proofs.indexes.places_in.Given as goal
 
 abbrev pub invariant-loop-name : goal.invariant-loop-name
-invariant-loop-name l = l.found.items ≡ flat_map (λ (name : List ℕ). option_to_list (first_place (is_type name) l.types)) (take l.name-index l.names)
+invariant-loop-name l = l.found.items ≡ flat_map (λ (name : List ℕ). option_to_list (first_place (is_type name) l.types)) (take l.name-index l.name-items)
