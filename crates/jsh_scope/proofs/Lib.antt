@@ -1,3 +1,4 @@
+pub mod Clones
 pub mod Importing
 pub mod Places
 pub mod Names
