@@ -53,11 +53,14 @@ adds_more places place m0 w0 m1 w1 m2 w2 a b = record {
     added : (i : ℕ) → get_or m2 i false ≡ true → get_or m0 i false ≡ false → (get_or m1 i false ≡ true) ⊎ (get_or m1 i false ≡ false) → is_among w2 i ≡ true
     added i held_now new_here (inl old) = b.kept i (a.added i old new_here)
     added i held_now new_here (inr new) = b.added i held_now new
+
     still : (i : ℕ) → get_or m1 i false ≡ true → get_or m2 i false ≡ true
     still i held = b.marked i ∙ or_left (get_or m1 i false) (nat_lt i (length m1) && is_among (place ∷ []) i) held
+
     waits_before : (i : ℕ) → (is_among w0 i ≡ true) ⊎ (get_or m1 i false ≡ true) → (is_among w0 i ≡ true) ⊎ (get_or m2 i false ≡ true)
     waits_before i (inl held) = inl held
     waits_before i (inr held) = inr (still i held)
+
     waits : (i : ℕ) → (is_among w1 i ≡ true) ⊎ (get_or m2 i false ≡ true) → (is_among w0 i ≡ true) ⊎ (get_or m2 i false ≡ true)
     waits i (inl held) = waits_before i (a.wait_marked i held)
     waits i (inr held) = inr held
@@ -91,17 +94,20 @@ adds_new place marks waiting below new = record {
         ap (λ (k : ℕ). get_or (set marks place true) k false) same
         ∙ get_or-set_same marks place true false below
         ∙ sym (or_right (get_or marks i false) (nat_lt i (length marks) && is_among (place ∷ []) i)
-            (and_from (nat_lt i (length marks)) (is_among (place ∷ []) i) (lt-ltb i (length marks) (omega arith)) (one_among place i same)))
+        (and_from (nat_lt i (length marks)) (is_among (place ∷ []) i) (lt-ltb i (length marks) (omega arith)) (one_among place i same)))
     marked i (inr apart) =
         get_or-set_other marks place i true false apart
         ∙ or_none (get_or marks i false) (nat_lt i (length marks))
         ∙ ap (λ (x : Bool). get_or marks i false || (nat_lt i (length marks) && x)) (sym (none_among place i apart))
+
     added : (i : ℕ) → get_or (set marks place true) i false ≡ true → get_or marks i false ≡ false → (i ≡ place) ⊎ (i ≡ place → ⊥) → is_among (waiting ++ place ∷ []) i ≡ true
     added i held_now new_here (inl same) = among_more waiting place i ∙ or_right (is_among waiting i) (is_among (place ∷ []) i) (one_among place i same)
     added i held_now new_here (inr apart) = absurd (both_ways _ new_here (sym (get_or-set_other marks place i true false apart) ∙ held_now))
+
     waits : (i : ℕ) → (is_among waiting i ≡ true) ⊎ (is_among (place ∷ []) i ≡ true) → (is_among waiting i ≡ true) ⊎ (get_or (set marks place true) i false ≡ true)
     waits i (inl held) = inl held
     waits i (inr here) = inr (ap (λ (k : ℕ). get_or (set marks place true) k false) (is_one place i here) ∙ get_or-set_same marks place true false below)
+
     left : length (waiting ++ place ∷ []) + count_by not (set marks place true) ≡ length waiting + count_by not marks
     left = omega (arith, length-append waiting (place ∷ []), rw new at (sum_by-set (λ (x : Bool). cond (not x) 1 0) marks place true false below))
 
@@ -117,13 +123,16 @@ adds_old place marks waiting old = record {
   where
     apart_same : (i : ℕ) → is_among (place ∷ []) i ≡ false → get_or marks i false ≡ (get_or marks i false || (nat_lt i (length marks) && is_among (place ∷ []) i))
     apart_same i apart = or_none (get_or marks i false) (nat_lt i (length marks)) ∙ ap (λ (x : Bool). get_or marks i false || (nat_lt i (length marks) && x)) (sym apart)
+
     past_same : (b c d : Bool) → b ≡ false → c ≡ false → b ≡ (b || (c && d))
     past_same true c d p q = absurd (cc)
     past_same false true d p q = absurd (cc)
     past_same false false d p q = refl
+
     held_same : (b c : Bool) → b ≡ true → b ≡ (b || c)
     held_same true c p = refl
     held_same false c p = absurd (cc)
+
     marked : (i : ℕ) → (i ≡ place) ⊎ (i ≡ place → ⊥) → (length marks ≤ place) ⊎ (get_or marks place false ≡ true) → get_or marks i false ≡ (get_or marks i false || (nat_lt i (length marks) && is_among (place ∷ []) i))
     marked i (inl same) (inl past) = past_same (get_or marks i false) (nat_lt i (length marks)) (is_among (place ∷ []) i) (get_or_past marks i false (omega arith)) (le-ltb i (length marks) (omega arith))
     marked i (inl same) (inr held) = held_same (get_or marks i false) (nat_lt i (length marks) && is_among (place ∷ []) i) (ap (λ (k : ℕ). get_or marks k false) same ∙ held)

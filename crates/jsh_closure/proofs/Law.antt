@@ -48,11 +48,13 @@ count_grows (suc n) f g less place below not_f yes_g = at (cases_eq place n) (λ
     here true b p q below = absurd (cc)
     here false true p q below = omega arith
     here false false p q below = absurd (cc)
+
     earlier : (a b : Bool) → (a ≡ true → b ≡ true) → count_below n f < count_below n g → count_below n f + cond a 1 0 < count_below n g + cond b 1 0
     earlier true true both below = omega arith
     earlier true false both below = absurd (cc (both refl))
     earlier false true both below = omega arith
     earlier false false both below = omega arith
+
     at : (place ≡ n) ⊎ (place ≡ n → ⊥) → ((place ≡ n → ⊥) → count_below n f < count_below n g) → count_below n f + cond (f n) 1 0 < count_below n g + cond (g n) 1 0
     at (inl same) before = here (f n) (g n) (sym (ap f same) ∙ not_f) (sym (ap g same) ∙ yes_g) (count_least n f g (λ p b. less p (omega arith)))
     at (inr apart) before = earlier (f n) (g n) (less n (omega arith)) (before apart)
@@ -95,12 +97,15 @@ module _ (n : ℕ) (first : ℕ → Bool) (leads : ℕ → ℕ → Bool) where
       Goal : Type 0
       Goal = ((place : ℕ) × (place < n) × (within n first leads k place ≡ false) × (within n first leads (suc k) place ≡ true))
           ⊎ ((place : ℕ) → place < suc m → within n first leads (suc k) place ≡ true → within n first leads k place ≡ true)
+
       none_at : ((place : ℕ) → place < m → within n first leads (suc k) place ≡ true → within n first leads k place ≡ true)
           → (within n first leads (suc k) m ≡ true → within n first leads k m ≡ true)
           → (place : ℕ) → place < suc m → within n first leads (suc k) place ≡ true → within n first leads k place ≡ true
       none_at before here place below held = elim (cases_eq place m) [
-          inl same ↦ ap (within n first leads k) same ∙ here (sym (ap (within n first leads (suc k)) same) ∙ held)
-        | inr apart ↦ before place (omega arith) held ]
+        | inl same ↦ ap (within n first leads k) same ∙ here (sym (ap (within n first leads (suc k)) same) ∙ held)
+        | inr apart ↦ before place (omega arith) held
+      ]
+
       at : ((place : ℕ) × (place < n) × (within n first leads k place ≡ false) × (within n first leads (suc k) place ≡ true))
           ⊎ ((place : ℕ) → place < m → within n first leads (suc k) place ≡ true → within n first leads k place ≡ true)
           → (within n first leads k m ≡ true) ⊎ (within n first leads k m ≡ false)
@@ -122,8 +127,8 @@ module _ (n : ℕ) (first : ℕ → Bool) (leads : ℕ → ℕ → Bool) where
           let e = some_of_any n (λ from. within n first leads (suc k) from && leads from place) next in
           let parts = and_parts (within n first leads (suc k) e.0) (leads e.0 place) e.2 in
           or_right (within n first leads k place) (any_below n (λ from. within n first leads k from && leads from place))
-              (any_at n (λ from. within n first leads k from && leads from place) e.0 e.1
-                  (and_from (within n first leads k e.0) (leads e.0 place) (stable e.0 e.1 parts.0) parts.1))
+          (any_at n (λ from. within n first leads k from && leads from place) e.0 e.1
+          (and_from (within n first leads k e.0) (leads e.0 place) (stable e.0 e.1 parts.0) parts.1))
 
   -- none is added from some time on, or so many are held
   stable_or_many : (k : ℕ) → IsStable k ⊎ (k ≤ count_below n (within n first leads k))
@@ -171,7 +176,7 @@ module _ (n : ℕ) (first : ℕ → Bool) (leads : ℕ → ℕ → Bool) where
   unfolding within
   next_within from to from_below to_below held next =
       or_right (within n first leads n to) (any_below n (λ place. within n first leads n place && leads place to))
-          (any_at n (λ place. within n first leads n place && leads place to) from from_below (and_from (within n first leads n from) (leads from to) held next))
+      (any_at n (λ place. within n first leads n place && leads place to) from from_below (and_from (within n first leads n from) (leads from to) held next))
 
   pub smallest : IsSmallest n first leads (closure n first leads)
   unfolding closure IsStable

@@ -35,6 +35,7 @@ among_step p n i before =
     or_false : (b : Bool) → (b || false) ≡ b
     or_false true = refl
     or_false false = refl
+
     here : (i ≡ n) ⊎ (i ≡ n → ⊥) → (b : Bool) → p n ≡ b → ((nat_lt i n && p i) || is_among (cond b (n ∷ []) []) i) ≡ (nat_lt i (n + 1) && p i)
     here (inl same) true is = rw (le-ltb i n (omega arith), lt-ltb i (n + 1) (omega arith), eq-eqb i n same) (sym (ap p same ∙ is))
     here (inl same) false is = rw (le-ltb i n (omega arith), lt-ltb i (n + 1) (omega arith)) (sym (ap p same ∙ is))

@@ -54,8 +54,11 @@ appends_more targets target place a b c first last = record {
 }
 
 pub appends_past : (target place : ℕ) (edges : List (List ℕ)) → length edges ≤ target → Appends (target ∷ []) place edges edges
-appends_past target place edges past = record { size = refl; edges = λ i j below.
-    or_nothing (has_edge edges i j) (nat_eq j place) ∙ ap (λ (x : Bool). has_edge edges i j || (x && nat_eq j place)) (sym (one_of target i ∙ ne_eqb i target (λ same. omega arith))) }
+appends_past target place edges past = record {
+  size = refl;
+  edges = λ i j below.
+      or_nothing (has_edge edges i j) (nat_eq j place) ∙ ap (λ (x : Bool). has_edge edges i j || (x && nat_eq j place)) (sym (one_of target i ∙ ne_eqb i target (λ same. omega arith)));
+}
 
 pub appends_at : (target place : ℕ) (edges : List (List ℕ)) → target < length edges → Appends (target ∷ []) place edges (set edges target (get_or edges target [] ++ place ∷ []))
 appends_at target place edges below = record { size = length-set edges target (get_or edges target [] ++ place ∷ []); edges = λ i j inside. here i j (cases_eq i target) }
@@ -63,6 +66,7 @@ appends_at target place edges below = record { size = length-set edges target (g
     and_true : (a b c : Bool) → b ≡ true → (a || c) ≡ (a || (b && c))
     and_true a true c is = refl
     and_true a false c is = absurd (cc)
+
     here : (i j : ℕ) → (i ≡ target) ⊎ (i ≡ target → ⊥) → has_edge (set edges target (get_or edges target [] ++ place ∷ [])) i j ≡ (has_edge edges i j || (is_among (target ∷ []) i && nat_eq j place))
     here i j (inl same) =
         ap (λ (places : List ℕ). is_among places j) (at_or (set edges target (get_or edges target [] ++ place ∷ [])) i ∙ ap (λ (k : ℕ). get_or (set edges target (get_or edges target [] ++ place ∷ [])) k []) same ∙ get_or-set_same edges target (get_or edges target [] ++ place ∷ []) [] below)
@@ -100,17 +104,20 @@ reversed_more k edges back new reversed appends = record {
     first_only true false = refl
     first_only false true = refl
     first_only false false = refl
+
     last_only : (a b : Bool) → ((false && a) || (b && true)) ≡ (true && b)
     last_only a true = refl
     last_only a false = refl
+
     neither : (a b : Bool) → ((false && a) || (b && false)) ≡ (false && a)
     neither a true = refl
     neither a false = refl
+
     here : (i j : ℕ) → (j ≡ k) ⊎ (j ≡ k → ⊥) → (nat_lt j k ≡ true) ⊎ (nat_lt j k ≡ false)
         → ((nat_lt j k && has_edge edges j i) || (has_edge edges k i && nat_eq j k)) ≡ (nat_lt j (k + 1) && has_edge edges j i)
     here i j (inl same) _ =
         rw (le-ltb j k (omega arith), eq-eqb j k same, lt-ltb j (k + 1) (omega arith))
-            (last_only (has_edge edges j i) (has_edge edges k i) ∙ ap (λ (m : ℕ). true && has_edge edges m i) (sym same))
+        (last_only (has_edge edges j i) (has_edge edges k i) ∙ ap (λ (m : ℕ). true && has_edge edges m i) (sym same))
     here i j (inr apart) (inl before) =
         rw (before, ne_eqb j k apart, lt-ltb j (k + 1) (omega (arith, ltb-true j k before))) (first_only (has_edge edges j i) (has_edge edges k i))
     here i j (inr apart) (inr not_before) =
@@ -130,7 +137,7 @@ module _ (n : ℕ) (f g : ℕ → Bool) (l m : ℕ → ℕ → Bool) (first_same
   within_same (suc k) i below =
       ap (λ (x : Bool). x || any_below n (λ from. within n f l k from && l from i)) (within_same k i below)
       ∙ ap (λ (x : Bool). within n g m k i || x) (any_same n (λ from. within n f l k from && l from i) (λ from. within n g m k from && m from i)
-          (λ from from_below. ap (λ (x : Bool). x && l from i) (within_same k from from_below) ∙ ap (λ (x : Bool). within n g m k from && x) (leads_same from i from_below below)))
+      (λ from from_below. ap (λ (x : Bool). x && l from i) (within_same k from from_below) ∙ ap (λ (x : Bool). within n g m k from && x) (leads_same from i from_below below)))
 
   pub closure_same : (i : ℕ) → i < n → closure n f l i ≡ closure n g m i
   unfolding closure
@@ -140,7 +147,7 @@ module _ (n : ℕ) (f g : ℕ → Bool) (l m : ℕ → ℕ → Bool) (first_same
   marks_same = ext_get_or false (map (closure n f l) (range_with_len 0 n)) (map (closure n g m) (range_with_len 0 n))
       (length-map-range_with_len (closure n f l) 0 n ∙ sym (length-map-range_with_len (closure n g m) 0 n))
       (λ i below. let inside : i < n = omega (arith, length-map-range_with_len (closure n f l) 0 n) in
-          get_or-map-range_with_len (closure n f l) 0 n i i false inside (omega arith) ∙ closure_same i inside ∙ sym (get_or-map-range_with_len (closure n g m) 0 n i i false inside (omega arith)))
+      get_or-map-range_with_len (closure n f l) 0 n i i false inside (omega arith) ∙ closure_same i inside ∙ sym (get_or-map-range_with_len (closure n g m) 0 n i i false inside (omega arith)))
 
   pub smallest_same : (set : ℕ → Bool) → IsSmallest n f l set → IsSmallest n g m set
   smallest_same set smallest = record {
@@ -163,4 +170,4 @@ pub smallest_reversed : (first : List ℕ) (edges back : List (List ℕ)) → Is
     → IsSmallest (length back) (is_among first) (has_edge back) set → IsSmallest (length edges) (is_among first) (has_edge_back edges) set
 smallest_reversed first edges back reversed set smallest =
     smallest_same (length edges) (is_among first) (is_among first) (has_edge back) (has_edge_back edges) (λ i below. refl) (λ i j i_below j_below. reversed_all edges back reversed i j i_below j_below) set
-        (subst (λ (n : ℕ). IsSmallest n (is_among first) (has_edge back) set) reversed.size smallest)
+    (subst (λ (n : ℕ). IsSmallest n (is_among first) (has_edge back) set) reversed.size smallest)

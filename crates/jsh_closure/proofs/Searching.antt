@@ -34,9 +34,11 @@ module _ (first : List ℕ) (edges : List (List ℕ)) where
       waits : (i : ℕ) → (is_among [] i ≡ true) ⊎ (get_or m i false ≡ true) → get_or m i false ≡ true
       waits i (inl never) = absurd (cc never)
       waits i (inr held) = held
+
       first_of : (i : ℕ) → (get_or m0 i false ≡ true) ⊎ ((nat_lt i (length m0) && is_among first i) ≡ true) → is_among first i ≡ true
       first_of i (inl never) = absurd (both_ways _ (blank i) never)
       first_of i (inr both) = (and_parts (nat_lt i (length m0)) (is_among first i) both).1
+
       is_first : (i : ℕ) → get_or m i false ≡ true → is_among first i ≡ true
       is_first i held = first_of i (or_cases (get_or m0 i false) (nat_lt i (length m0) && is_among first i) (sym (adds.marked i) ∙ held))
 
@@ -58,35 +60,46 @@ module _ (first : List ℕ) (edges : List (List ℕ)) where
     where
       still : (i : ℕ) → get_or m i false ≡ true → get_or m1 i false ≡ true
       still i held = adds.marked i ∙ or_left (get_or m i false) (nat_lt i (length m) && is_among (places_at (slice_get edges place)) i) held
+
       waited : (i : ℕ) → is_among w i ≡ true → is_among (w ++ place ∷ []) i ≡ true
       waited i held = list_any-append (nat_eq i) w (place ∷ []) ∙ or_left (is_among w i) (is_among (place ∷ []) i) held
+
       place_waited : is_among (w ++ place ∷ []) place ≡ true
       place_waited = list_any-append (nat_eq place) w (place ∷ []) ∙ or_right (is_among w place) (is_among (place ∷ []) place) (or_left (nat_eq place place) false (eq-eqb place place refl))
+
       place_marked : get_or m place false ≡ true
       place_marked = search.wait_marked place place_waited
+
       place_below : place < length edges
       place_below = omega (arith, search.size, marked_below m place place_marked)
+
       waits : (i : ℕ) → (is_among w i ≡ true) ⊎ (get_or m1 i false ≡ true) → get_or m1 i false ≡ true
       waits i (inl held) = still i (search.wait_marked i (waited i held))
       waits i (inr held) = held
+
       sound : (i : ℕ) → i < length edges → (get_or m i false ≡ true) ⊎ ((nat_lt i (length m) && is_among (places_at (slice_get edges place)) i) ≡ true) → closure (length edges) (is_among first) (has_edge edges) i ≡ true
       sound i below (inl old) = search.sound i below old
       sound i below (inr new) = law.closed.holds_next place i place_below below (search.sound place place_below place_marked) (and_parts (nat_lt i (length m)) (is_among (places_at (slice_get edges place)) i) new).1
+
       from_place : (to : ℕ) → to < length edges → has_edge edges place to ≡ true → get_or m1 to false ≡ true
       from_place to below next = adds.marked to ∙ or_right (get_or m to false) (nat_lt to (length m) && is_among (places_at (slice_get edges place)) to)
           (and_from (nat_lt to (length m)) (is_among (places_at (slice_get edges place)) to) (lt-ltb to (length m) (omega (arith, search.size))) next)
+
       not_waiting : (from : ℕ) → (from ≡ place → ⊥) → is_among w1 from ≡ false → is_among (w ++ place ∷ []) from ≡ false
       not_waiting from other apart = false_from_ne_true _ (λ held. at (or_cases (is_among w from) (is_among (place ∷ []) from) (sym (list_any-append (nat_eq from) w (place ∷ [])) ∙ held)))
         where
           here : (nat_eq from place ≡ true) ⊎ (false ≡ true) → ⊥
           here (inl same) = other (eqb-true from place same)
           here (inr never) = cc never
+
           at : (is_among w from ≡ true) ⊎ (is_among (place ∷ []) from ≡ true) → ⊥
           at (inl held) = both_ways _ apart (adds.kept from held)
           at (inr one) = here (or_cases (nat_eq from place) false one)
+
       old : (from to : ℕ) → to < length edges → is_among w1 from ≡ false → has_edge edges from to ≡ true → get_or m from false ≡ true → (from ≡ place) ⊎ (from ≡ place → ⊥) → get_or m1 to false ≡ true
       old from to below apart next held (inl same) = from_place to below (sym (ap (λ (k : ℕ). has_edge edges k to) same) ∙ next)
       old from to below apart next held (inr other) = still to (search.followed from to below held (not_waiting from other apart) next)
+
       follows : (from to : ℕ) → to < length edges → is_among w1 from ≡ false → has_edge edges from to ≡ true → (get_or m from false ≡ true) ⊎ (get_or m from false ≡ false) → get_or m1 from false ≡ true → get_or m1 to false ≡ true
       follows from to below apart next (inl held) _ = old from to below apart next held (cases_eq from place)
       follows from to below apart next (inr new) held = absurd (both_ways _ apart (adds.added from held new))
@@ -106,6 +119,7 @@ module _ (first : List ℕ) (edges : List (List ℕ)) where
         holds_first = λ place below held. search.begun place below held;
         holds_next = λ from to from_below to_below held next. search.followed from to to_below held refl next;
       }
+
       at : (i : ℕ) → i < length edges → get_or m i false ≡ closure (length edges) (is_among first) (has_edge edges) i
       at i below = same_bool (get_or m i false) (closure (length edges) (is_among first) (has_edge edges) i) (search.sound i below) (law.contained (λ k. get_or m k false) closed i below)
 

@@ -23,6 +23,7 @@ position_push p i (y ∷ ys) x = here (p y) (position_push p (i + 1) ys x)
   where
     later : (i + 1) + length ys ≡ i + suc (length ys)
     later = omega arith
+
     here : (b : Bool) → position_from p (i + 1) (ys ++ x ∷ []) ≡ option_or (position_from p (i + 1) ys) (cond (p x) (Some ((i + 1) + length ys)) None)
         → cond b (Some i) (position_from p (i + 1) (ys ++ x ∷ [])) ≡ option_or (cond b (Some i) (position_from p (i + 1) ys)) (cond (p x) (Some (i + suc (length ys))) None)
     here true rest = refl
@@ -41,29 +42,36 @@ index_none passes index empty = record { places = λ name. rw empty refl }
 
 pub index_more : (passes : List ℕ → Member → Bool) (members : List Member) (k : ℕ) (d : Member) (old new : BTreeMap (List ℕ) ℕ) → k < length members
     → IsIndex passes (take k members) old → AddsPlace (λ name. passes name (get_or members k d)) k old new → IsIndex passes (take (k + 1) members) new
-index_more passes members k d old new below index adds = record { places = λ name.
-    adds.places name
-    ∙ ap (λ (place : Option ℕ). option_or place (cond (passes name (get_or members k d)) (Some k) None)) (index.places name)
-    ∙ sym (place_more (passes name) members k d below) }
+index_more passes members k d old new below index adds = record {
+  places = λ name.
+      adds.places name
+      ∙ ap (λ (place : Option ℕ). option_or place (cond (passes name (get_or members k d)) (Some k) None)) (index.places name)
+      ∙ sym (place_more (passes name) members k d below);
+}
 
 pub all_none : (passes : List ℕ → Member → Bool) (members : List Member) (index : BTreeMap (List ℕ) (List ℕ)) → IsEmpty index → IsIndexOfAll passes members [] index
 all_none passes members index empty = record { places = λ name. rw empty refl }
 
 pub all_more : (passes : List ℕ → Member → Bool) (members : List Member) (k : ℕ) (d : Member) (old new : BTreeMap (List ℕ) (List ℕ)) → k < length members
     → IsIndexOfAll passes members (take k members) old → AppendsPlace (λ name. passes name (get_or members k d)) k old new → IsIndexOfAll passes members (take (k + 1) members) new
-all_more passes members k d old new below index appends = record { places = λ name.
-    ap (flat_map at) (appends.places name)
-    ∙ flat_map-append at (places_at (found old name)) (cond (passes name x) (k ∷ []) [])
-    ∙ ap (λ (some : List Member). some ++ flat_map at (cond (passes name x) (k ∷ []) [])) (index.places name)
-    ∙ ap (λ (some : List Member). filter (passes name) (take k members) ++ some) (one name (passes name x) refl)
-    ∙ sym (ap (filter (passes name)) (take_more members k d below) ∙ filter-append (passes name) (take k members) (x ∷ [])) }
+all_more passes members k d old new below index appends = record {
+  places = λ name.
+      ap (flat_map at) (appends.places name)
+      ∙ flat_map-append at (places_at (found old name)) (cond (passes name x) (k ∷ []) [])
+      ∙ ap (λ (some : List Member). some ++ flat_map at (cond (passes name x) (k ∷ []) [])) (index.places name)
+      ∙ ap (λ (some : List Member). filter (passes name) (take k members) ++ some) (one name (passes name x) refl)
+      ∙ sym (ap (filter (passes name)) (take_more members k d below) ∙ filter-append (passes name) (take k members) (x ∷ []));
+}
   where
     at : ℕ → List Member
     at = λ place. option_to_list (slice_get members place)
+
     x : Member
     x = get_or members k d
+
     here : flat_map (λ (place : ℕ). option_to_list (slice_get members place)) (k ∷ []) ≡ get_or members k d ∷ []
     here = ap (λ (o : Option Member). option_to_list o ++ []) (slice_get-get_or members k d below)
+
     one : (name : List ℕ) (b : Bool) → passes name (get_or members k d) ≡ b
         → flat_map (λ (place : ℕ). option_to_list (slice_get members place)) (cond b (k ∷ []) []) ≡ cond b (get_or members k d ∷ []) []
     one name true e = here

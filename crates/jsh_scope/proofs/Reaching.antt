@@ -28,12 +28,14 @@ unfolding marked_types reached_types
 reached_marked types header edges m edges_are m_is =
     ap (λ (n : ℕ). flat_map (linked_where types (λ (place : ℕ). get_or m place false)) (range_with_len 0 n)) size
     ∙ flat_map_range (linked_where types (λ (place : ℕ). get_or m place false)) (linked_where types (is_reached types header)) 0 (length types)
-        (λ i from below. ap (λ (b : Bool). cond b (linked_at (slice_get types i)) []) (same i (omega arith)))
+    (λ i from below. ap (λ (b : Bool). cond b (linked_at (slice_get types i)) []) (same i (omega arith)))
   where
     count : length edges ≡ length types
     count = ap (λ (some : List (List ℕ)). length some) edges_are ∙ length-map types (λ (type : Member). places_in types type.header)
+
     size : length m ≡ length types
     size = ap (λ (some : List Bool). length some) m_is ∙ length-map-range_with_len (closure (length edges) (is_among (places_in types header)) (has_edge edges)) 0 (length edges) ∙ ap (λ (some : List (List ℕ)). length some) edges_are ∙ length-map types (λ (type : Member). places_in types type.header)
+
     same : (i : ℕ) → i < length types → get_or m i false ≡ is_reached types header i
     same i below =
         ap (λ (some : List Bool). get_or some i false) m_is

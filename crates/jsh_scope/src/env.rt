@@ -96,7 +96,11 @@ impl Env {
 
     /// Which methods outside of types have the name.
     #[tactic(auto, unfolding(crate::specs::Answers::methods_named))]
-    pub fn methods_named(&self, alloc: Global, name: &Name) -> Result<Vec<MethodAnswer<'_>>, NoMemory>
+    pub fn methods_named(
+        &self,
+        alloc: Global,
+        name: &Name,
+    ) -> Result<Vec<MethodAnswer<'_>>, NoMemory>
         ensures { IfOk result (λ answers. answers.items ≡ spec.methods_named self.now name.now) }
     {
         let live = self.live_methods(alloc, name)?;

@@ -14,13 +14,25 @@ use std::alloc::Global;
 #[derive(Debug, Drop)]
 pub(crate) enum Imported {
     /// `import package.name;`
-    OfType { qualifier: Name, name: Name },
+    OfType {
+        qualifier: Name,
+        name: Name,
+    },
     /// `import package.*;`
-    OfPackage { qualifier: Name },
+    OfPackage {
+        qualifier: Name,
+    },
     /// `import static package.of.name;`
-    OfStatic { qualifier: Name, of: Name, name: Name },
+    OfStatic {
+        qualifier: Name,
+        of: Name,
+        name: Name,
+    },
     /// `import static package.of.*;`
-    OfStatics { qualifier: Name, of: Name },
+    OfStatics {
+        qualifier: Name,
+        of: Name,
+    },
 }
 
 /// The live imports, by rising id.
@@ -115,7 +127,11 @@ fn push_single_static_import(
             let qualifier = joined(alloc, all_but_last(owner))?;
             let of = of.clone()?;
             let name = name.clone()?;
-            imports.push(Imported::OfStatic { qualifier, of, name })?;
+            imports.push(Imported::OfStatic {
+                qualifier,
+                of,
+                name,
+            })?;
         }
     }
     Ok(())

@@ -12,7 +12,10 @@ mod laws;
 mod library;
 mod reached;
 
-pub use answers::{LibraryAnswer, Linked, MethodAnswer, StaticConstant, StaticMethod, TypeAnswer, VarAnswer, Visible};
+pub use answers::{
+    LibraryAnswer, Linked, MethodAnswer, StaticConstant, StaticMethod, TypeAnswer, VarAnswer,
+    Visible,
+};
 pub use asked::{Asked, AttrError, Footprint};
 pub use env::Env;
 pub use indexes::mentioned_types;

@@ -72,11 +72,7 @@ fn last_single_type<'a>(
     last
 }
 
-fn single_type<'a>(
-    library: &'a Library,
-    name: &Name,
-    import: &Imported,
-) -> Option<TypeAnswer<'a>>
+fn single_type<'a>(library: &'a Library, name: &Name, import: &Imported) -> Option<TypeAnswer<'a>>
     ensures { result ≡ spec.single_type library.now name.now import.now }
 {
     match import {

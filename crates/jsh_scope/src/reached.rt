@@ -87,10 +87,7 @@ fn push_marked<'a>(
     Ok(())
 }
 
-fn push_linked<'a>(
-    found: &mut Vec<Linked<'a>>,
-    member: Option<&'a Member>,
-) -> Result<(), NoMemory>
+fn push_linked<'a>(found: &mut Vec<Linked<'a>>, member: Option<&'a Member>) -> Result<(), NoMemory>
     ensures { OnOk result (found.new.items ≡ found.old.items ++ spec.linked_at (option_copied member.entry)) }
 {
     if let Some(member) = member {

@@ -14,5 +14,5 @@ returns-in_ok-push c =
     let below : target < length edges = omega (arith, c.len.ensures) in
     let was : get_or edges target [] ≡ old = get_or_from_slice_get edges target old [] (slice_get-get_or edges target old below ∙ ap (λ (x : List ℕ). Some x) (sym c.index_mut-slot.ensures.value)) in
     let list : get_or edges target [] ++ place ∷ [] ≡ c.from_vec.result =
-        ap (λ (x : List ℕ). x ++ place ∷ []) (was ∙ sym (c.into_vec-list.ensures ∙ c.replace.ensures.value)) ∙ sym c.in_ok-push.ensures.items ∙ sym c.from_vec.ensures in
+    ap (λ (x : List ℕ). x ++ place ∷ []) (was ∙ sym (c.into_vec-list.ensures ∙ c.replace.ensures.value)) ∙ sym c.in_ok-push.ensures.items ∙ sym c.from_vec.ensures in
     subst (λ (x : List ℕ). Appends (target ∷ []) place edges (set edges target x)) list (appends_at target place edges below)

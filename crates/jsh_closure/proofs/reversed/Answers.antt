@@ -16,4 +16,4 @@ loop-place-preserved c =
     let targets = c.index-edges-place.result in
     let here : places_at (slice_get edges place) ≡ targets = ap places_at (slice_get-get_or edges place targets c.loop-place-test.true ∙ ap (λ (x : List ℕ). Some x) (sym c.index-edges-place.is)) in
     reversed_more place edges c.loop-place.back.items c.append_all.new.edges.items c.loop-place.invariant
-        (subst (λ (some : List ℕ). Appends some place c.loop-place.back.items c.append_all.new.edges.items) (c.as_slice.ensures ∙ sym here) c.in_ok-append_all.ensures)
+    (subst (λ (some : List ℕ). Appends some place c.loop-place.back.items c.append_all.new.edges.items) (c.as_slice.ensures ∙ sym here) c.in_ok-append_all.ensures)

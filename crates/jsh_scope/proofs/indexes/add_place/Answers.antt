@@ -8,4 +8,4 @@ use Rattle.jsh_scope.proofs.indexes.add_place.Goals as goal
 pub returns-in_ok-insert : goal.returns-in_ok-insert
 returns-in_ok-insert c =
     adds_inserted c.args.name.now c.args.at c.args.places.now c.insert.new.self (sym c.contains_key.ensures ∙ c.if-not-contains_key.true)
-        (subst (λ (name : List ℕ). (q : List ℕ) → found c.insert.new.self q ≡ cond (is_eq (slice_cmp nat_cmp name q)) (Some c.args.at) (found c.args.places.now q)) c.in_ok-name.ensures.cases c.in_ok-insert.ensures.updates.0)
+    (subst (λ (name : List ℕ). (q : List ℕ) → found c.insert.new.self q ≡ cond (is_eq (slice_cmp nat_cmp name q)) (Some c.args.at) (found c.args.places.now q)) c.in_ok-name.ensures.cases c.in_ok-insert.ensures.updates.0)

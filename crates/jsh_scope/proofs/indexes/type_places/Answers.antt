@@ -11,4 +11,4 @@ loop-at-init c = index_none is_type c.new-places.result c.new-places.ensures.emp
 pub loop-at-preserved : goal.loop-at-preserved
 loop-at-preserved c =
     index_more is_type c.args.members.now c.loop-at.at c.index-members-at.result c.loop-at.places c.add_type.new.places c.loop-at-test.true c.loop-at.invariant
-        (subst (λ (member : Member). AddsPlace (λ name. is_type name member) c.loop-at.at c.loop-at.places c.add_type.new.places) c.index-members-at.is c.in_ok-add_type.ensures)
+    (subst (λ (member : Member). AddsPlace (λ name. is_type name member) c.loop-at.at c.loop-at.places c.add_type.new.places) c.index-members-at.is c.in_ok-add_type.ensures)

@@ -11,4 +11,4 @@ loop-at-init c = index_none is_visible_variable c.new-places.result c.new-places
 pub loop-at-preserved : goal.loop-at-preserved
 loop-at-preserved c =
     index_more is_visible_variable c.args.members.now c.loop-at.at c.index-members-at.result c.loop-at.places c.add_variable.new.places c.loop-at-test.true c.loop-at.invariant
-        (subst (λ (member : Member). AddsPlace (λ name. is_visible_variable name member) c.loop-at.at c.loop-at.places c.add_variable.new.places) c.index-members-at.is c.in_ok-add_variable.ensures)
+    (subst (λ (member : Member). AddsPlace (λ name. is_visible_variable name member) c.loop-at.at c.loop-at.places c.add_variable.new.places) c.index-members-at.is c.in_ok-add_variable.ensures)

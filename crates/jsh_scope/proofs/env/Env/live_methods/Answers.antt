@@ -19,7 +19,7 @@ returns c =
     let same : c.self.inside.members ≡ members = ap (λ (scope : Scope). scope.members) c.self.view_is in
     let places : c.places_found-places.result.now ≡ places_at (found c.self.inside.methods name) = c.places_found-places.ensures ∙ ap places_at c.get.ensures.value in
     let listed : flat_map (λ (place : ℕ). option_to_list (slice_get members place)) (places_at (found c.self.inside.methods name)) ≡ filter (is_visible_method name) members =
-        subst (λ (some : List Member). flat_map (λ (place : ℕ). option_to_list (slice_get some place)) (places_at (found c.self.inside.methods name)) ≡ filter (is_visible_method name) some) same (c.self.invariant.0.methods_are.places name) in
+    subst (λ (some : List Member). flat_map (λ (place : ℕ). option_to_list (slice_get some place)) (places_at (found c.self.inside.methods name)) ≡ filter (is_visible_method name) some) same (c.self.invariant.0.methods_are.places name) in
     c.in_ok-methods.ensures
     ∙ ap (flat_map (method_at types members)) places
     ∙ flat_map_twice (method_of types) (λ (place : ℕ). option_to_list (slice_get members place)) (places_at (found c.self.inside.methods name))
