@@ -20,3 +20,6 @@ pub use asked::{Asked, AttrError, Footprint};
 pub use env::Env;
 pub use indexes::mentioned_types;
 pub use laws::{answers_stay, readers_agree};
+
+#[cfg(test)]
+mod tests;
