@@ -1,8 +1,15 @@
 -- Turns step by step.
-use Rattle.std.proofs.Common.{◌≡◌, ℕ, suc, zero, ◌+◌, ◌-◌, ◌≤◌, Bool, true, false, refl, ap, ◌∙◌, sym, subst, arith, add-zero, add-one, zero-add, ◌==◌, if◌then◌else◌}
+use Rattle.std.proofs.Common.{◌≡◌, ℕ, List, [], ◌∷◌, Some, suc, zero, ◌+◌, ◌-◌, ◌≤◌, Bool, true, false, refl, ap, ◌∙◌, sym, subst, arith, add-zero, add-one, zero-add, ◌==◌, if◌then◌else◌}
 use Rattle.std.proofs.Math.Nat.{le_refl}
-use Rattle.jsh_core.specs.State.{World}
-use Rattle.jsh_core.specs.Threads.{can_go_on, stepped, turned, Turned}
+use Rattle.std.specs.Fmt.{signed_decimal}
+use Rattle.std.specs.List.{slice_get}
+use Rattle.jsh_sum.specs.Sum.{value_of}
+use Rattle.jsh_core.specs.declared.world.Answer.{Answer}
+use Rattle.jsh_core.specs.declared.world.Frame.{Frame}
+use Rattle.jsh_core.specs.declared.world.Thread.{Thread}
+use Rattle.jsh_core.specs.State.{World, numbered}
+use Rattle.jsh_core.specs.Threads.{can_go_on, frames_step, next, performed, stepped, turned, Turned}
+use Rattle.jsh_core.specs.Threads.Next.{Returns}
 
 -- as many steps more
 abbrev pub further : ℕ → Turned → Turned
@@ -98,3 +105,21 @@ turned-kept-asked number most done w is = from (done == 0)
     from : (none : Bool) → turned number (if none then most else done) w ≡ turned number most w
     from true = refl
     from false = ap (λ n. turned number n w) is ∙ turned-kept number most w
+
+-- a step behind the first answer returns the text of the sum
+returned : (w : World) (number : ℕ) (t : Thread) (frame : Frame) (below : List Frame) (answers : List Answer) → (answers ≡ [] → ⊥) →
+    performed w number t frame below (next frame.body.sum answers) ≡ performed w number t frame [] (Returns (signed_decimal (value_of frame.body.sum)))
+returned w number t frame below [] later = absurd (later refl)
+returned w number t frame below (first ∷ rest) later = refl
+
+frames-returned : (w : World) (number : ℕ) (t : Thread) (frame : Frame) (frames : List Frame) → Some frame ≡ slice_get frames 0 → (frame.answers ≡ [] → ⊥) →
+    frames_step w number t frames ≡ performed w number t frame [] (Returns (signed_decimal (value_of frame.body.sum)))
+frames-returned w number t frame [] first later = cc
+frames-returned w number t frame (top ∷ below) first later =
+    let same : frame ≡ top = cc in
+    subst (λ (x : Frame). frames_step w number t (x ∷ below) ≡ performed w number t frame [] (Returns (signed_decimal (value_of frame.body.sum)))) same
+    (returned w number t frame below frame.answers later)
+
+pub stepped-returns : (w : World) (number : ℕ) (t : Thread) (frame : Frame) → Some t ≡ numbered w.threads number → Some frame ≡ slice_get t.frames 0 →
+    (frame.answers ≡ [] → ⊥) → stepped w number ≡ performed w number t frame [] (Returns (signed_decimal (value_of frame.body.sum)))
+stepped-returns w number t frame there first later = rw (← there) (frames-returned w number t frame t.frames first later)

@@ -96,7 +96,7 @@ fn set_variable(world: &mut WorldParts, number: u32, value: i32) -> Result<(), N
     requires few { StepsAtMost (2 ^ 63) world.old.threads.items }
     ensures ok { OnOk result ((t : Thread) (frame : Frame) (below : List Frame) → numbered world.old.threads.items number ≡ Some t → t.frames ≡ frame ∷ below → world_of world.new ≡ performed (world_of world.old) number t frame below (Sets value)) }
     ensures err { OnErr result (world_of world.new ≡ world_of world.old) }
-    ensures alive { world.new.alive ≡ world.old.alive }
+    ensures world { IsWorld world.old → IsWorld world.new }
 {
     let thread = &mut world.threads[number as usize - 1];
     answer_thread(thread)?;
@@ -182,6 +182,8 @@ pub fn turn_thread(
     ensures sound { IsSound parts.new }
     ensures within { (entries : ℕ) → IsWithin entries parts.old → IsWithin (entries + 1) parts.new }
 {
-    let done = turn(&mut parts.world, alloc, number, most)?;
-    Ok(ReplyBody::Turned { steps: done })
+    match turn(&mut parts.world, alloc, number, most) {
+        Ok(done) => Ok(ReplyBody::Turned { steps: done }),
+        Err(cut) => Err(cut),
+    }
 }

@@ -8,8 +8,8 @@ use Rattle.jsh_core.proofs.acts.perform.Goals as goal
 
 pub returns-in-Enter-clause-done : goal.returns-in-Enter-clause-done
 returns-in-Enter-clause-done c =
-    done-whole c.args.parts.now c.number_client.new.parts c.args.client c.args.act.now act.Enter c.number_client.result c.at_once-in-Enter.result
-    c.in-Enter.is c.at_once-in-Enter.ensures c.number_client.ensures.ok c.number_client.ensures.sound (λ entries h. IsWithin-weaker entries _ (c.number_client.ensures.within entries h))
+    done-whole c.args.parts.now c.number_client.new.parts c.args.client c.args.act.now act.Enter c.number_client.result c.at_once.result
+    c.in-Enter.is c.at_once.ensures c.number_client.ensures.ok c.number_client.ensures.sound (λ entries h. IsWithin-weaker entries _ (c.number_client.ensures.within entries h))
 
 pub returns-in-Submit-clause-done : goal.returns-in-Submit-clause-done
 returns-in-Submit-clause-done c =
@@ -28,17 +28,17 @@ returns-in-Turn-clause-cut c =
 
 pub returns-in-Collect-clause-done : goal.returns-in-Collect-clause-done
 returns-in-Collect-clause-done c =
-    done-whole c.args.parts.now c.collect_run.new.parts c.args.client c.args.act.now (act.Collect c.in-Collect.run) c.collect_run.result c.at_once-in-Collect.result
+    done-whole c.args.parts.now c.collect_run.new.parts c.args.client c.args.act.now (act.Collect c.in-Collect.run') c.collect_run.result c.at_once-in-Collect.result
     c.in-Collect.is c.at_once-in-Collect.ensures c.collect_run.ensures.ok c.collect_run.ensures.sound (λ entries h. IsWithin-weaker entries _ (c.collect_run.ensures.within entries h))
 
 pub returns-in-Expire-clause-done : goal.returns-in-Expire-clause-done
 returns-in-Expire-clause-done c =
-    done-whole c.args.parts.now c.expire_run.new.parts c.args.client c.args.act.now (act.Expire c.in-Expire.run c.in-Expire.steps) c.expire_run.result c.at_once-in-Expire.result
+    done-whole c.args.parts.now c.expire_run.new.parts c.args.client c.args.act.now (act.Expire c.in-Expire.run' c.in-Expire.steps) c.expire_run.result c.at_once-in-Expire.result
     c.in-Expire.is c.at_once-in-Expire.ensures c.expire_run.ensures.ok c.expire_run.ensures.sound (λ entries h. IsWithin-weaker entries _ (c.expire_run.ensures.within entries h))
 
 pub returns-in-Stop-clause-done : goal.returns-in-Stop-clause-done
 returns-in-Stop-clause-done c =
-    done-now c.args.parts.now c.stop_run.new.parts c.args.client c.args.act.now (act.Stop c.in-Stop.run) c.stop_run.result
+    done-now c.args.parts.now c.stop_run.new.parts c.args.client c.args.act.now (act.Stop c.in-Stop.run') c.stop_run.result
     c.in-Stop.is c.stop_run.ensures.ok c.stop_run.ensures.sound (λ entries h. IsWithin-weaker entries _ (c.stop_run.ensures.within entries h))
 
 pub returns-in-Drop-clause-done : goal.returns-in-Drop-clause-done

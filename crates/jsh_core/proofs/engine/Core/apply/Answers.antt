@@ -39,10 +39,10 @@ invariant_of-self-in-Ok g c =
       bytes = c.push_entry.ensures.bytes;
       closed = c.push_entry.ensures.closed;
     } in
-    let replied : IsReplied c.self.inside.parts c.deliver.new.parts c.args.entry.client c.args.entry.act c.deliver.result =
-    replied-done c.self.inside.parts c.perform.new.parts c.deliver.new.parts c.args.entry.client c.args.entry.act c.in-Ok.body c.deliver.result
-    c.in-Ok.ensures.done c.deliver.ensures.step c.deliver.ensures.sound c.deliver.ensures.within in
-    StandsFor-kept c.self.inside.log c.make_room.new.log c.push_entry.new.log c.args.entry c.self.inside.parts c.deliver.new.parts c.deliver.result c.self.invariant allowed roomy
+    let replied : IsReplied c.self.inside.parts c.deliver-reply.new.parts c.args.entry.client c.args.entry.act c.deliver-reply.result =
+    replied-done c.self.inside.parts c.perform.new.parts c.deliver-reply.new.parts c.args.entry.client c.args.entry.act c.in-Ok.body c.deliver-reply.result
+    c.in-Ok.ensures.done c.deliver-reply.ensures.step c.deliver-reply.ensures.sound c.deliver-reply.ensures.within in
+    StandsFor-kept c.self.inside.log c.make_room.new.log c.push_entry.new.log c.args.entry c.self.inside.parts c.deliver-reply.new.parts c.deliver-reply.result c.self.invariant allowed roomy
     (subst (λ (e : Entry). IsLonger c.make_room.new.log c.push_entry.new.log e) c.kept_entry.ensures longer) replied
 
 pub invariant_of-self-then-cut-gt0 : goal.invariant_of-self-then-cut-gt0
@@ -66,9 +66,9 @@ invariant_of-self-then-cut-gt0 g c =
 
 pub returns-in-Ok-clause-causes : goal.returns-in-Ok-clause-causes
 returns-in-Ok-clause-causes g c =
-    let replied : IsReplied c.self.inside.parts c.deliver.new.parts c.args.entry.client c.args.entry.act c.deliver.result =
-    replied-done c.self.inside.parts c.perform.new.parts c.deliver.new.parts c.args.entry.client c.args.entry.act c.in-Ok.body c.deliver.result
-    c.in-Ok.ensures.done c.deliver.ensures.step c.deliver.ensures.sound c.deliver.ensures.within in
-    reply-causes c.args.self.now c.args.entry c.deliver.result c.requires c.perform.ensures.utf8
+    let replied : IsReplied c.self.inside.parts c.deliver-reply.new.parts c.args.entry.client c.args.entry.act c.deliver-reply.result =
+    replied-done c.self.inside.parts c.perform.new.parts c.deliver-reply.new.parts c.args.entry.client c.args.entry.act c.in-Ok.body c.deliver-reply.result
+    c.in-Ok.ensures.done c.deliver-reply.ensures.step c.deliver-reply.ensures.sound c.deliver-reply.ensures.within in
+    reply-causes c.args.self.now c.args.entry c.deliver-reply.result c.requires c.perform.ensures.utf8
     (ap (λ (s : Stepped). s.reply) replied.step
     ∙ ap (λ (s : State). (step s c.args.entry).reply) (c.self.invariant.state ∙ ap state_of c.self.view_is))
