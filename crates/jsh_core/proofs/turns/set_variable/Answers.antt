@@ -29,7 +29,7 @@ returns-in-Some-clause-ok c = λ t frame below there running.
     let front : c.in-Some.frame.now ≡ answered «answer».Empty frame = cc in
     let cells : c.set_cell.new.cells ≡ set_cell frame.body.variable (value.Int c.args.value) c.args.world.now.cells.items =
     c.set_cell.ensures
-    ∙ ap (λ (z : ℤ). set_cell c.in-Some.frame.now.body.variable (value.Int z) c.deref_mut.result.now) (to_z-of_z c.ranges.value.sfits)
+    ∙ ap (λ (z : ℤ). set_cell c.in-Some.frame.now.body.variable (value.Int z) c.deref_mut.result.now) (to_z-of_z c.ranges.value)
     ∙ ap (λ (xs : List Cell). set_cell c.in-Some.frame.now.body.variable (value.Int c.args.value) xs) c.deref_mut.ensures.value
     ∙ ap (λ (x : Frame). set_cell x.body.variable (value.Int c.args.value) c.args.world.now.cells.items) front in
     ap (λ (x : Thread). record (world_of c.args.world.now) {
