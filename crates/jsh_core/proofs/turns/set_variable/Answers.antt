@@ -1,6 +1,8 @@
 -- The first frame has its answer, and its variable the value.
-use Rattle.std.proofs.Common.{◌≡◌, ℕ, ℤ, ◌-◌, List, ◌∷◌, Option, None, Some, ap, ◌∙◌, set, get_or}
+use Rattle.std.proofs.Common.{◌≡◌, ℕ, ℤ, ◌-◌, List, ◌∷◌, Option, None, Some, ap, ◌∙◌, set, get_or, length, sym}
 use Rattle.std.specs.List.{slice_get}
+use Rattle.std.specs.Vec.{with_items}
+use Rattle.std.proofs.lemmas.List.{with_items_is}
 use Rattle.std.proofs.lemmas.Option.{get_or_from_slice_get}
 use Rattle.std.proofs.Math.Facts.{to_z-of_z}
 use Rattle.jsh_tree.specs.declared.key.Link.{Link}
@@ -32,7 +34,13 @@ returns-in-Some-clause-ok c = λ t frame below there running.
     ∙ ap (λ (z : ℤ). set_cell c.in-Some.frame.now.body.variable (value.Int z) c.deref_mut.result.now) (to_z-of_z c.ranges.value)
     ∙ ap (λ (xs : List Cell). set_cell c.in-Some.frame.now.body.variable (value.Int c.args.value) xs) c.deref_mut.ensures.value
     ∙ ap (λ (x : Frame). set_cell x.body.variable (value.Int c.args.value) c.args.world.now.cells.items) front in
-    ap (λ (x : Thread). record (world_of c.args.world.now) {
+    let kept : (with_items c.args.world.now.cells c.set_cell.new.cells).items ≡ c.set_cell.new.cells =
+    with_items_is c.args.world.now.cells c.set_cell.new.cells (c.set_cell.auto.cells ∙ ap length c.deref_mut.ensures.value ∙ sym c.args.world.now.cells.ok.0) in
+    ap (λ (xs : List Cell). record (world_of c.args.world.now) {
+      cells = xs;
+      threads = set c.args.world.now.threads.items (c.args.number - 1) c.answer_thread.new.thread;
+    }) kept
+    ∙ ap (λ (x : Thread). record (world_of c.args.world.now) {
       cells = c.set_cell.new.cells;
       threads = set c.args.world.now.threads.items (c.args.number - 1) x;
     }) after

@@ -1,5 +1,5 @@
 -- The last step of a body returns the text of its value.
-use Rattle.std.proofs.Common.{◌≡◌, ℕ, List, [], Some, Bool, false, IsTrue, rules, ap, sym, subst, ◌∙◌}
+use Rattle.std.proofs.Common.{◌≡◌, ℕ, List, [], Some, true, rules, ap, sym, ◌∙◌}
 use Rattle.std.specs.Fmt.{signed_decimal}
 use Rattle.jsh_sum.specs.Sum.{value_of}
 use Rattle.jsh_core.specs.declared.world.Thread.{Thread}
@@ -18,4 +18,4 @@ returns-clause-ok c =
     c.end_thread.ensures.after c.in-Some.thread.now c.in-Some-get.frame.now [] (sym there)
     ∙ ap (λ (x : List ℕ). performed (world_of c.args.world.now) c.args.number c.in-Some.thread.now c.in-Some-get.frame.now [] (Returns x)) text
     ∙ sym (stepped-returns (world_of c.args.world.now) c.args.number c.in-Some.thread.now c.in-Some-get.frame.now there c.in-Some-get.ensures.value
-    (λ e. subst (λ (b : Bool). IsTrue b) c.if-is_empty.false (c.is_empty.ensures.1 e)))
+    (λ e. (let h : c.is_empty.result ≡ true = c.is_empty.ensures.1 e in cc)))
