@@ -20,6 +20,9 @@ def ends(text):
 def told(name, text):
     print(f"{name:<60}{'yes' if ends(text) else 'no'}")
 
+# Operators of all ten levels, each of which waits for its right operand.
+TEN = "a || b && c | d ^ e & f == g < h << i + j * "
+
 # A front, a middle and an end: the front and the end stand as often as the number says.
 FORMS = (
     ("parentheses", 256, "(", "1", ")"),
@@ -36,7 +39,12 @@ FORMS = (
     ("first branches of ? :", 256, "a ? ", "b", " : c"),
     ("second branches of ? :", 256, "a ? b : ", "c", ""),
     ("array initializers", 256, "new int[] {", "", "}"),
-    ("parentheses behind ten operators", 256, "a || b && c | d ^ e & f == g < h << i + j * (", "k", ")"),
+    ("parentheses behind ten operators", 256, TEN + "(", "k", ")"),
+    ("calls of members behind ten operators", 256, TEN + "a.f(", "k", ")"),
+    ("new objects behind ten operators", 256, TEN + "new A(", "k", ")"),
+    ("index brackets behind ten operators", 256, TEN + "a[", "k", "]"),
+    ("sizes of arrays behind ten operators", 256, TEN + "new int[", "k", "]"),
+    ("array initializers behind ten operators", 256, TEN + "new int[] {", "k", "}"),
     ("parentheses in front of ten operators", 256, "(", "a", " * b + c << d < e == f & g ^ h | i && j || k)"),
     ("blocks", 256, "{", "", "}"),
     ("if", 256, "if (a) ", ";", ""),
@@ -58,7 +66,7 @@ for name, depth, front, middle, end in FORMS:
     # A class, its method's body and an assignment are constructs too.
     depth -= 3
     inside = front * depth + middle + end * depth
-    if inside[-1] not in ";}" or front.startswith("new"):
+    if inside[-1] not in ";}" or "new" in front:
         inside = f"x = {inside};"
     told("in a class: " + name, "class A { void f() {" + inside + "} }")
 EOS

@@ -37,3 +37,4 @@ pub mod Refusals
 pub mod Values
 pub mod RunHistory
 pub mod SnippetLemmas
+pub mod ByteLemmas

@@ -30,8 +30,8 @@ pub fn value_of_cell<'a>(cells: &'a [Cell], link: &Link) -> Option<&'a Value>
 }
 
 /// A link's variable gets a value.
-pub fn set_cell(cells: &mut [Cell], link: &Link, value: Value)
-    ensures { cells.new ≡ set_cell link.now value cells.old }
+pub fn set_cell(cells: &mut Vec<Cell>, link: &Link, value: Value)
+    ensures { cells.new.items ≡ set_cell link.now value cells.old.items }
 {
     if let Some(place) = cell_place(cells, link) {
         cells[place].value = value;

@@ -235,11 +235,7 @@ fn new_main_thread(alloc: Global, owner: u32, body: Body) -> Result<Thread, NoMe
 }
 
 /// The thread of a client's snippet, where there is something to evaluate.
-fn new_thread_for(
-    alloc: Global,
-    owner: u32,
-    run: Option<Body>,
-) -> Result<Option<Thread>, NoMemory>
+fn new_thread_for(alloc: Global, owner: u32, run: Option<Body>) -> Result<Option<Thread>, NoMemory>
     ensures { IfOk result (λ thread. thread ≡ option_map (spec.main_thread owner) run) }
 {
     match run {
@@ -306,12 +302,7 @@ fn add_snippet(
 }
 
 /// A snippet of a client stands.
-fn publish(
-    parts: &mut Parts,
-    alloc: Global,
-    client: u32,
-    plan: Plan,
-) -> Result<ReplyBody, NoMemory>
+fn publish(parts: &mut Parts, alloc: Global, client: u32, plan: Plan) -> Result<ReplyBody, NoMemory>
     requires sound { IsSound parts.old }
     requires within { IsWithin most_entries parts.old }
     requires room { length parts.old.book.items < most_records }

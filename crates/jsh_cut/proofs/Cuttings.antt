@@ -1,17 +1,15 @@
 -- How a text is cut, snippet by snippet.
-use Rattle.std.proofs.Common.{◌≡◌, ℕ, zero, suc, ◌<◌, ◌≤◌, List, [], ◌∷◌, ◌++◌, length, drop, Bool, true, false, refl, sym, ap, ◌∙◌, arith, append_assoc, length-drop}
-use Rattle.std.specs.Prelude.{nat_lt, slice_range, if◌then◌else◌}
+use Rattle.std.proofs.Common.{◌≡◌, ℕ, zero, suc, ◌<◌, ◌≤◌, List, [], length, drop, Bool, true, false, refl, sym, ap, ◌∙◌, arith, length-drop}
+use Rattle.std.specs.Prelude.{nat_lt, if◌then◌else◌}
 use Rattle.std.specs.Str.{IsUtf8}
 use Rattle.std.proofs.lemmas.Str.{IsUtf8-drop}
 use Rattle.jsh_complete.specs.declared.completion.Completeness.{Completeness}
 use Rattle.jsh_complete.specs.declared.completion.Completeness.TheVariants as completeness
-use Rattle.jsh_complete.specs.declared.completion.Completion.{Completion}
-use Rattle.jsh_cut.specs.declared.command.Command.{Command}
 use Rattle.jsh_cut.specs.declared.command.Command.TheVariants as command
 use Rattle.jsh_cut.specs.declared.held.Held.{Held}
 use Rattle.jsh_cut.specs.declared.held.Held.TheVariants as held
 use Rattle.jsh_tree.specs.Text.{most_source}
-use Rattle.jsh_cut.specs.Commands.{Gives, completion, begin_of, first_source, source_of, submits, waits, by_kind, analyzed, by_text, with_command, with_commands, held_text}
+use Rattle.jsh_cut.specs.Commands.{Gives, completion, first_source, source_of, submits, waits, by_kind, analyzed, by_text, with_command, held_text}
 use Rattle.jsh_cut.proofs.Completions.{first_end}
 
 -- ---- as many rounds as a text has bytes are enough

@@ -1,16 +1,17 @@
 -- Of all commands the exit is the last.
-use Rattle.std.proofs.Common.{◌≡◌, ℕ, zero, suc, Bool, true, false, not, ◌||◌, ◌&&◌, nat_lt, List, [], ◌∷◌, ◌++◌, length, drop, map, refl, sym, ap, ◌∙◌, append-nil}
-use Rattle.std.specs.Prelude.{if◌then◌else◌}
-use Rattle.std.specs.List.{list_any, filter}
+use Rattle.std.proofs.Common.{◌≡◌, ℕ, zero, suc, Bool, true, false, not, ◌&&◌, nat_lt, List, [], ◌∷◌, ◌++◌, length, drop, map, refl, ap, ◌∙◌, append-nil}
+use Rattle.std.specs.Prelude.{if◌then◌else◌, Option, None, Some}
 use Rattle.jsh_tree.specs.Text.{most_source}
 use Rattle.jsh_complete.specs.declared.completion.Completeness.{Completeness}
 use Rattle.jsh_complete.specs.declared.completion.Completeness.TheVariants as completeness
 use Rattle.jsh_lines.specs.Lines.{as_text, input_lines}
+use Rattle.jsh_snippet.specs.declared.acts.Act.{Act}
+use Rattle.jsh_commands.specs.Commands.{command as command_of, act_of}
 use Rattle.jsh_cut.specs.declared.command.Command.{Command}
 use Rattle.jsh_cut.specs.declared.command.Command.TheVariants as command
 use Rattle.jsh_cut.specs.declared.held.Held.{Held}
 use Rattle.jsh_cut.specs.declared.held.Held.TheVariants as held
-use Rattle.jsh_cut.specs.Commands.{Gives, completion, source_of, submits, waits, first_source, by_kind, analyzed, ends_before, submitted_before, is_command_line, text_before, is_exit, act_of, trimmed, by_command, by_text, with_commands, cut_line, onward, cut_lines, cut_end, cut_input, before_exit, exits, commands, is_the_exit, has_exit, without_exit}
+use Rattle.jsh_cut.specs.Commands.{Gives, completion, source_of, submits, by_kind, analyzed, ends_before, submitted_before, is_command_line, text_before, trimmed, by_act, by_command, by_text, with_commands, cut_line, onward, cut_lines, cut_end, cut_input, before_exit, exits, commands, has_exit, without_exit}
 
 -- ---- lists
 
@@ -62,10 +63,12 @@ none_if : (b : Bool) (x y : Gives) → has_exit x.commands ≡ false → has_exi
 none_if true x y none nor = none
 none_if false x y none nor = nor
 
+none_by_act : (what : Option Act) → has_exit (by_act what).commands ≡ false
+none_by_act None = refl
+none_by_act (Some what) = refl
+
 none_by_command : (line : List ℕ) → has_exit (by_command line).commands ≡ false
-none_by_command line =
-    none_if (is_exit (trimmed line)) (record { commands = []; held = held.Nothing; exits = true })
-    (record { commands = command.Slash (act_of (trimmed line)) ∷ []; held = held.Nothing; exits = false }) refl refl
+none_by_command line = none_by_act (act_of (command_of (trimmed line)))
 
 none_before : (before : Held) (line : List ℕ) → has_exit (submitted_before before line) ≡ false
 none_before held.Nothing line = refl

@@ -1,4 +1,3 @@
-pub mod Edges
 pub mod Ends
 pub mod Completions
 pub mod Rests

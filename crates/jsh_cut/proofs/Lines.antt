@@ -1,10 +1,12 @@
 -- What one line more gives, case by case.
-use Rattle.std.proofs.Common.{◌≡◌, ℕ, suc, ◌+◌, ◌≤◌, List, [], ◌∷◌, ◌++◌, length, Bool, true, false, refl, sym, subst, arith, length-append}
-use Rattle.std.specs.Prelude.{◌||◌, if◌then◌else◌}
+use Rattle.std.proofs.Common.{◌≡◌, ℕ, suc, ◌+◌, ◌≤◌, List, [], ◌∷◌, ◌++◌, length, Bool, true, false, refl, sym, arith, length-append}
+use Rattle.std.specs.Prelude.{◌||◌, if◌then◌else◌, Option, None, Some}
+use Rattle.jsh_snippet.specs.declared.acts.Act.{Act}
+use Rattle.jsh_commands.specs.Commands.{command as command_of, act_of}
 use Rattle.jsh_cut.specs.declared.command.Command.TheVariants as command
 use Rattle.jsh_cut.specs.declared.held.Held.{Held}
 use Rattle.jsh_cut.specs.declared.held.Held.TheVariants as held
-use Rattle.jsh_cut.specs.Commands.{Gives, completion, nothing_more, act_of, source_of, by_text, with_command, with_commands, held_text, is_command_line, is_slash_line, ends_before, text_before, is_exit, trimmed, by_line, by_command, cut_line}
+use Rattle.jsh_cut.specs.Commands.{Gives, completion, nothing_more, source_of, by_text, with_command, held_text, is_command_line, is_slash_line, ends_before, text_before, trimmed, by_line, by_act, by_command, cut_line}
 use Rattle.jsh_lines.specs.Lines.{is_blank}
 use Rattle.jsh_complete.specs.declared.completion.Completeness.TheVariants as completeness
 use Rattle.jsh_cut.proofs.Blanks.{blank_empty, blank_more}
@@ -45,10 +47,12 @@ held_if : (b : Bool) (x y : Gives) (n : ℕ) → length (held_text x.held) ≤ n
 held_if true x y n p q = p
 held_if false x y n p q = q
 
+held_by_act : (what : Option Act) (n : ℕ) → length (held_text (by_act what).held) ≤ n
+held_by_act None n = omega arith
+held_by_act (Some what) n = omega arith
+
 held_command : (line : List ℕ) (n : ℕ) → length (held_text (by_command line).held) ≤ n
-held_command line n =
-    held_if (is_exit (trimmed line)) (record { commands = []; held = held.Nothing; exits = true })
-    (record { commands = command.Slash (act_of (trimmed line)) ∷ []; held = held.Nothing; exits = false }) n (omega arith) (omega arith)
+held_command line n = held_by_act (act_of (command_of (trimmed line))) n
 
 if_shorter : (b : Bool) (text : List ℕ) → length (if b then [] else text) ≤ length text
 if_shorter true text = omega arith

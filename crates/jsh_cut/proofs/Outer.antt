@@ -6,7 +6,7 @@ use Rattle.std.specs.Str.{IsUtf8, IsCharBoundary}
 use Rattle.jsh_lex.specs.Chars.{drop_while}
 use Rattle.jsh_pieces.proofs.LexisFronts.{run_left}
 use Rattle.jsh_pieces.proofs.LexisSteps.{drop_while_le}
-use Rattle.jsh_cut.proofs.Edges.{drops, keeps}
+use Rattle.jsh_lines.proofs.Edges.{drops, keeps}
 
 -- ---- runs of characters
 

@@ -1,7 +1,6 @@
 -- How a client's input is cut into commands: lines are collected until they are a snippet, and some lines are commands of their own.
-use Rattle.std.specs.Prelude.{ℕ, zero, suc, ◌-◌, Bool, true, false, not, ◌&&◌, ◌||◌, ◌==◌, nat_lt, List, [], ◌∷◌, ◌++◌, length, drop, map, reverse, codes, if◌then◌else◌, Option, None, Some, slice_range}
+use Rattle.std.specs.Prelude.{ℕ, zero, suc, ◌-◌, Bool, true, false, not, ◌&&◌, ◌||◌, ◌==◌, nat_lt, List, [], ◌∷◌, ◌++◌, length, drop, map, reverse, if◌then◌else◌, Option, None, Some, slice_range}
 use Rattle.std.specs.Char.{is_ascii_alphabetic}
-use Rattle.std.specs.Str.{bytes_eq}
 use Rattle.std.specs.Option.{option_map}
 use Rattle.std.specs.List.{list_any, filter}
 use Rattle.jsh_tree.specs.declared.token.Token.{Token}
@@ -14,20 +13,17 @@ use Rattle.jsh_complete.specs.declared.completion.Completeness.TheVariants as co
 use Rattle.jsh_complete.specs.declared.completion.Completion.{Completion}
 use Rattle.jsh_complete.specs.Completing.{completion as completion_by}
 use Rattle.jsh_tree.specs.Text.{is_white, most_source}
+use Rattle.jsh_lines.specs.declared.edge.Edge.TheVariants.{Blank, BlankOrReturn}
+use Rattle.jsh_lines.specs.Edges.{behind_front, before_back}
 use Rattle.jsh_lines.specs.Lines.{is_blank, as_text, input_lines}
 use Rattle.jsh_snippet.specs.declared.acts.Act.{Act}
-use Rattle.jsh_snippet.specs.declared.acts.Act.TheVariants as act
-use Rattle.jsh_snippet.specs.declared.acts.Question.TheVariants as question
+use Rattle.jsh_commands.specs.Commands.{command as command_of, act_of}
 use Rattle.jsh_cut.specs.declared.command.Command.{Command}
 use Rattle.jsh_cut.specs.declared.command.Command.TheVariants as command
 use Rattle.jsh_cut.specs.declared.held.Held.{Held}
 use Rattle.jsh_cut.specs.declared.held.Held.TheVariants as held
 
 -- ---- lines that are commands
-
--- space and tab
-abbrev pub is_space : ℕ → Bool
-is_space c = c == 32 || c == 9
 
 -- `/`, and a letter of ASCII or `?` behind it
 abbrev pub begins_command : List ℕ → Bool
@@ -36,19 +32,11 @@ begins_command _ = false
 
 -- its first characters other than spaces and tabs begin a command
 abbrev pub is_slash_line : List ℕ → Bool
-is_slash_line line = begins_command (drop_while is_space line)
+is_slash_line line = begins_command (behind_front Blank line)
 
 -- without spaces and tabs at its start, and without spaces, tabs and carriage returns at its end
 abbrev pub trimmed : List ℕ → List ℕ
-trimmed line = reverse (drop_while (λ c. is_space c || c == 13) (reverse (drop_while is_space line)))
-
--- this line, which comes without its blanks, ends the input
-abbrev pub is_exit : List ℕ → Bool
-is_exit line = bytes_eq line (codes "/exit")
-
--- the act of any other line that is a command, without its blanks: none is known yet
-abbrev pub act_of : List ℕ → Act
-act_of line = act.Ask (question.Invalid line)
+trimmed line = before_back BlankOrReturn (behind_front Blank line)
 
 -- ---- texts that are held
 
@@ -154,11 +142,14 @@ text_before (held.MustGoOn text) line = text
 abbrev pub with_commands : List Command → Gives → Gives
 with_commands cs gives = record gives { commands = cs ++ gives.commands }
 
--- a line that is a command ends the input, or is one act
+-- an act is one command, and no act ends the input
+abbrev pub by_act : Option Act → Gives
+by_act None = record { commands = []; held = held.Nothing; exits = true }
+by_act (Some what) = record { commands = command.Slash what ∷ []; held = held.Nothing; exits = false }
+
+-- what a line gives that is a command, by the act that it asks for
 abbrev pub by_command : List ℕ → Gives
-by_command line =
-    if is_exit (trimmed line) then record { commands = []; held = held.Nothing; exits = true }
-    else record { commands = command.Slash (act_of (trimmed line)) ∷ []; held = held.Nothing; exits = false }
+by_command line = by_act (act_of (command_of (trimmed line)))
 
 -- the text with the line behind it, which ends with its line feed
 abbrev pub by_text : List ℕ → Gives

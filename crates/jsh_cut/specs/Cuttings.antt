@@ -1,6 +1,5 @@
 -- What is still to come of a line that is cut command by command.
-use Rattle.std.specs.Prelude.{◌≡◌, ◌≢◌, ℕ, true, false, List, [], ◌∷◌, drop}
-use Rattle.jsh_complete.specs.declared.completion.Completeness.TheVariants as completeness
+use Rattle.std.specs.Prelude.{true, false, []}
 use Rattle.jsh_cut.specs.declared.command.Command.TheVariants as command
 use Rattle.jsh_cut.specs.declared.held.Held.TheVariants as held
 use Rattle.jsh_cut.specs.declared.cutting.Tail.{Tail}

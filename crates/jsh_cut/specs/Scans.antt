@@ -1,5 +1,5 @@
--- What the code knows of a text: its tokens, and which characters don't count at its ends.
-use Rattle.std.specs.Prelude.{◌≡◌, ℕ, ◌+◌, ◌-◌, ◌<◌, ◌^◌, Bool, ◌||◌, ◌==◌, List, [], ◌∷◌, length, drop, reverse, Option}
+-- What the code knows of a text and its tokens.
+use Rattle.std.specs.Prelude.{◌≡◌, ℕ, ◌+◌, ◌-◌, ◌<◌, ◌^◌, List, [], ◌∷◌, length, drop, reverse, Option}
 use Rattle.std.specs.Str.{IsCharBoundary}
 use Rattle.jsh_tree.specs.declared.token.Token.{Token}
 use Rattle.jsh_lex.specs.Chars.{drop_while}
@@ -10,18 +10,10 @@ use Rattle.jsh_pieces.specs.Pieces.{moved_lexed, joined}
 use Rattle.jsh_tree.specs.Text.{is_white}
 use Rattle.jsh_complete.specs.declared.reading.Reader.{Reader}
 use Rattle.jsh_complete.specs.Reading.{HasRead}
-use Rattle.jsh_cut.specs.declared.edge.Edge.{Edge}
-use Rattle.jsh_cut.specs.declared.edge.Edge.TheVariants.{White, Blank, BlankOrReturn}
 use Rattle.jsh_cut.specs.declared.onward.Onward.{Onward}
 use Rattle.jsh_cut.specs.declared.onward.Onward.TheVariants.{Stays, From, Anew}
 use Rattle.jsh_cut.specs.declared.scan.Scan.{Scan}
-use Rattle.jsh_cut.specs.Commands.{is_space, fault_of}
-
--- the characters that don't count at an end
-abbrev pub is_outer : Edge → ℕ → Bool
-is_outer White c = is_white c
-is_outer Blank c = is_space c
-is_outer BlankOrReturn c = is_space c || c == 13
+use Rattle.jsh_cut.specs.Commands.{fault_of}
 
 -- the tokens of a text up to its first fault, and the kind of that fault
 pub record IsScanOf (text : List ℕ) (scan : Scan) : Type 0 where

@@ -11,7 +11,6 @@ ghost use Rattle.jsh_cut.specs.declared.held.Held.TheVariants as holds;
 
 mod command;
 mod cutting;
-mod edge;
 mod held;
 mod laws;
 mod line;
@@ -25,8 +24,7 @@ mod waiting;
 pub use command::Command;
 pub use cutting::{Cutting, Tail};
 pub use held::Held;
-use jsh_snippet::{Act, Question};
-use jsh_tree::SrcText;
+use jsh_snippet::Act;
 pub use laws::{exits_end_commands, held_texts_are_bounded};
 use line::{ends_before, is_slash_line, trim};
 pub use next::Next;
@@ -34,25 +32,23 @@ pub use remainder::Remainder;
 use std::alloc::{AllocError, Global};
 pub use waiting::Waiting;
 
-/// The act of a line that is a command, without its blanks.
-fn act_of(alloc: Global, line: &str) -> Result<Act, AllocError>
-    ensures { IfOk result (λ act. act ≡ spec.act_of line.now) }
-{
-    let line = SrcText::from_text(alloc, line)?;
-    Ok(Act::Ask {
-        question: Question::Invalid(line),
-    })
-}
-
 /// What a line gives that is a command.
 fn tail_of_command(alloc: Global, line: &str) -> Result<Tail, AllocError>
     ensures { IfOk result (λ tail. by_tail tail ≡ spec.by_command line.now) }
 {
-    let line = trim(line);
-    if line == "/exit" {
-        Ok(Tail::Exit)
-    } else {
-        Ok(Tail::Slash(act_of(alloc, line)?))
+    let Ok(command) = jsh_commands::command(alloc, trim(line)) else {
+        return Err(AllocError);
+    };
+    Ok(tail_of_act(command.act()))
+}
+
+/// An act is one command, and no act ends the input.
+fn tail_of_act(what: Option<Act>) -> Tail
+    ensures { by_tail result ≡ spec.by_act what }
+{
+    match what {
+        Some(what) => Tail::Slash(what),
+        None => Tail::Exit,
     }
 }
 

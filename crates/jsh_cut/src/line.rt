@@ -3,23 +3,20 @@
 ghost use Rattle.std.specs.Prelude.{◌≡◌};
 ghost use Rattle.jsh_cut.specs.Commands as spec;
 
-use crate::edge::{Edge, first_place, last_place};
-use jsh_lines::is_blank;
+use jsh_lines::{Edge, before_back, behind_front, is_blank};
 
 /// The line without spaces and tabs at its start, and without spaces, tabs and carriage returns at its end.
 pub fn trim(line: &str) -> &str
     ensures { result.now ≡ spec.trimmed line.now }
 {
-    let rest = &line[first_place(Edge::Blank, line)..];
-    &rest[..last_place(Edge::BlankOrReturn, rest)]
+    before_back(Edge::BlankOrReturn, behind_front(Edge::Blank, line))
 }
 
 /// Whether the line is a command, where nothing is held that must go on.
 pub fn is_slash_line(line: &str) -> bool
     ensures { result ≡ spec.is_slash_line line.now }
 {
-    let rest = &line[first_place(Edge::Blank, line)..];
-    match rest.as_bytes() {
+    match behind_front(Edge::Blank, line).as_bytes() {
         [first, second, ..] => *first == b'/' && (second.is_ascii_alphabetic() || *second == b'?'),
         _ => false,
     }

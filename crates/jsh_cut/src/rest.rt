@@ -7,10 +7,10 @@ ghost use Rattle.jsh_complete.specs.declared.completion.Completeness.TheVariants
 ghost use Rattle.jsh_cut.specs.Commands as spec;
 ghost use Rattle.jsh_cut.specs.Rests.{placed, IsRest};
 
-use crate::edge::{Edge, first_place, last_place};
 use crate::scan::{last_end, part};
 use jsh_complete::{Completeness, Reader};
 use jsh_lex::LexFault;
+use jsh_lines::{Edge, first_place, last_place};
 use jsh_tree::Token;
 
 /// How a rest begins.

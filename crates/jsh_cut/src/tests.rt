@@ -4,13 +4,13 @@ ghost use Rattle.std.specs.Prelude.{◌≡◌, length};
 ghost use Rattle.jsh_cut.specs.Commands.{held_text};
 
 use crate::{Cutting, Held, Next, cut_end, cut_line};
-use jsh_snippet::{Act, Question};
+use jsh_snippet::{Act, Question, Target};
 use std::alloc::{AllocError, Global};
 use std::process::Abort;
 use std::test::Fail;
 
 /// Lines, what they give, what is held behind them, and what the end of the input gives then. `E<..>` is a snippet to evaluate, `I<..>` the act
-/// of a line that no command is, and `X` an exit; `?<..>` is a text that may end, and `+<..>` one that must go on.
+/// of a line that no command is, `H` the question for the commands, `R` a reset, `D<..>` the drop of a name, and `X` an exit; `?<..>` is a text that may end, and `+<..>` one that must go on.
 type Row = (&'static str, &'static str, &'static str, &'static str);
 
 /// Snippets of one line and of several.
@@ -189,7 +189,7 @@ const BRANCHES: [Row; 11] = [
 ];
 
 /// Lines that are commands, and lines that look so.
-const COMMANDS: [Row; 17] = [
+const COMMANDS: [Row; 20] = [
     ("/exit", "X", "", ""),
     ("  /exit \t", "X", "", ""),
     ("/exit\r", "X", "", ""),
@@ -197,7 +197,10 @@ const COMMANDS: [Row; 17] = [
     ("/Exit", "I</Exit>", "", ""),
     ("/foo bar ", "I</foo bar>", "", ""),
     ("\t/x\r", "I</x>", "", ""),
-    ("/?", "I</?>", "", ""),
+    ("/?", "H", "", ""),
+    ("/reset ", "R", "", ""),
+    ("/drop x\r", "D<x>", "", ""),
+    ("/drop 1 2", "I</drop 1 2>", "", ""),
     ("/Z\n1", "I</Z>E<1>", "", ""),
     // a digit, a blank, or white space that is no blank
     ("/5", "E</5>", "", ""),
@@ -289,6 +292,13 @@ fn tell_act(told: &mut String, act: &Act) -> Result<(), AllocError> {
         Act::Ask {
             question: Question::Invalid(line),
         } => tell(told, "I", line.as_str()),
+        Act::Ask {
+            question: Question::Help,
+        } => told.push_str("H"),
+        Act::Reset => told.push_str("R"),
+        Act::Drop {
+            target: Target::Named(name),
+        } => tell(told, "D", name.as_str()),
         _ => told.push_str("another act"),
     }
 }

@@ -7,12 +7,12 @@ ghost use Rattle.jsh_lex.specs.Chars.{drop_while};
 ghost use Rattle.jsh_tree.specs.Text.{is_white};
 ghost use Rattle.jsh_cut.specs.Commands as spec;
 
-use crate::edge::{Edge, first_place, last_place};
 use crate::onward::{lex_from, lex_onward, onward_of};
 use crate::remainder::Remainder;
 use crate::scan::{Scan, last_end, part};
 use jsh_complete::{Completion, Reader};
 use jsh_lex::LexFault;
+use jsh_lines::{Edge, first_place, last_place};
 use jsh_tree::{Seq, Token};
 use std::alloc::{AllocError, Global};
 use std::fmt;

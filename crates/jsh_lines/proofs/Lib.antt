@@ -1,3 +1,4 @@
+pub mod Edges
 pub mod Cuts
 pub mod Texts
 pub mod Lengths

@@ -1,4 +1,5 @@
-//! The lines of a client's input: where one ends, whether it is blank, and its text.
+//! The lines of a client's input: where one ends, whether it is blank, its text, and what is left of it
+//! without characters at its ends.
 #![tactic(auto)]
 
 ghost use Rattle.std.specs.Prelude.{◌≡◌, ◌<◌, ◌≤◌, ◌++◌, false, length, take, drop, IfOk, MatchOption};
@@ -7,6 +8,9 @@ ghost use Rattle.std.specs.Str.Lossy.{utf8_valid_len};
 ghost use Rattle.jsh_tree.specs.Text.{is_white};
 ghost use Rattle.jsh_lines.specs.Lines.{IsFirstLineFeed, as_text, has_line_feed, is_blank};
 
+mod edge;
+
+pub use edge::{Edge, before_back, behind_front, first_place, last_place};
 use jsh_tree::{SrcText, is_white};
 use std::alloc::{AllocError, Global};
 

@@ -1,21 +1,31 @@
 //! The feedback that a client is written for its entries, as the `jshell` tool words it (JEP 222).
-//!
-//! Texts stand for those replies that the engine gives today. Every other reply writes nothing yet.
+//! `specs/Texts.antt` says it whole.
 #![tactic(auto)]
 
 ghost use Rattle.std.specs.Prelude.{◌≡◌, ◌++◌, IfOk, OnOk};
 ghost use Rattle.std.specs.List.{flat_map};
-ghost use Rattle.jsh_render.specs.Texts.{source_of, run_of, error_line, collected_line, answer_line, feedback, rendered, shown};
+ghost use Rattle.jsh_render.specs.Texts.{source_of, run_of, answer_line, feedback, rendered, shown};
 
-mod lines;
+mod diagnostics;
+mod events;
+mod names;
+mod outcomes;
 mod place;
+mod refusals;
+#[cfg(test)]
+mod snippet_tests;
+mod snippets;
 #[cfg(test)]
 mod tests;
+mod text;
+mod words;
 
-use crate::lines::{error_in, refusal_text, value_text};
-use jsh_snippet::{Act, Collected, Entry, Line, Outcome, Reply, ReplyBody};
+use crate::outcomes::{push_collected, push_counted};
+use crate::refusals::refusal_text;
+use crate::snippets::{push_dropped, push_submitted};
+use crate::text::{push, push_text};
+use jsh_snippet::{Act, Entry, Line, Reply, ReplyBody};
 use jsh_text::NoMemory;
-use jsh_tree::Diagnostic;
 use std::alloc::Global;
 
 /// The feedback of a reply to an entry in UTF-8, without what the client's threads have printed.
@@ -40,52 +50,27 @@ fn push_feedback(bytes: &mut Vec<u8>, act: &Act, body: &ReplyBody) -> Result<(),
     ensures { OnOk result (bytes.new.items ≡ bytes.old.items ++ feedback act.now body.now) }
 {
     match body {
-        ReplyBody::Submitted(submitted) => {
-            push_errors(bytes, source(act), submitted.diagnostics.as_slice())
-        }
+        ReplyBody::Submitted(submitted) => push_submitted(bytes, source(act), submitted),
         ReplyBody::Collected(collected) => push_collected(bytes, collected),
+        ReplyBody::StopDone { run } => {
+            push_counted(bytes, b"|  run ", *run as u64, b" stopped\n")
+        }
+        ReplyBody::Dropped {
+            id,
+            kind,
+            name,
+            events,
+        } => push_dropped(bytes, *id, *kind, name, events.as_slice()),
         ReplyBody::Answered(lines) => push_lines(bytes, lines.as_slice()),
+        ReplyBody::ResetDone { .. } => push(bytes, b"|  Resetting state.\n"),
         ReplyBody::Refused(refusal) => {
             let text = refusal_text(*bytes.allocator(), run(act), refusal)?;
-            push_bytes(bytes, text.as_bytes())
+            push(bytes, text.as_bytes())
         }
-        _ => Ok(()),
-    }
-}
-
-fn push_errors(
-    bytes: &mut Vec<u8>,
-    source: &[u8],
-    diagnostics: &[Diagnostic],
-) -> Result<(), NoMemory>
-    ensures { OnOk result (bytes.new.items ≡ bytes.old.items ++ flat_map (error_line source.now) diagnostics.now) }
-{
-    for diagnostic in diagnostics {
-        push_error(bytes, source, diagnostic)?;
-    }
-    Ok(())
-}
-
-fn push_error(bytes: &mut Vec<u8>, source: &[u8], diagnostic: &Diagnostic) -> Result<(), NoMemory>
-    ensures { OnOk result (bytes.new.items ≡ bytes.old.items ++ error_line source.now diagnostic.now) }
-{
-    let text = error_in(*bytes.allocator(), source, diagnostic)?;
-    push_bytes(bytes, text.as_bytes())
-}
-
-fn push_collected(bytes: &mut Vec<u8>, collected: &Collected) -> Result<(), NoMemory>
-    ensures { OnOk result (bytes.new.items ≡ bytes.old.items ++ collected_line collected.now) }
-{
-    match collected {
-        Collected::Over {
-            name,
-            outcome: Outcome::Value(value),
-            ..
-        } => {
-            let text = value_text(*bytes.allocator(), name, value)?;
-            push_bytes(bytes, text.as_slice())
-        }
-        _ => Ok(()),
+        ReplyBody::Entered { .. }
+        | ReplyBody::Turned { .. }
+        | ReplyBody::Left
+        | ReplyBody::Closed => Ok(()),
     }
 }
 
@@ -101,16 +86,8 @@ fn push_lines(bytes: &mut Vec<u8>, lines: &[Line]) -> Result<(), NoMemory>
 fn push_line(bytes: &mut Vec<u8>, line: &Line) -> Result<(), NoMemory>
     ensures { OnOk result (bytes.new.items ≡ bytes.old.items ++ answer_line line.now) }
 {
-    let mut text = line.text.to_utf8(*bytes.allocator())?;
-    text.push(b'\n')?;
-    push_bytes(bytes, text.as_slice())
-}
-
-fn push_bytes(bytes: &mut Vec<u8>, more: &[u8]) -> Result<(), NoMemory>
-    ensures { OnOk result (bytes.new.items ≡ bytes.old.items ++ more.now) }
-{
-    bytes.extend_from_slice(more)?;
-    Ok(())
+    push_text(bytes, &line.text)?;
+    push(bytes, b"\n")
 }
 
 // The source that an act hands in.

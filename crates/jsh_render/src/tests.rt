@@ -1,10 +1,10 @@
 // Expected texts are in the form of the `jshell` tool's feedback.
 use crate::{render, show};
 use jsh_snippet::{
-    Act, Collected, Entry, Kind, LimitKind, Line, Outcome, Question, Refusal, Reply, ReplyBody,
-    Subkind, Submitted,
+    Act, Collected, Entry, Fate, Kind, LimitKind, Line, Outcome, Question, Refusal, Reply,
+    ReplyBody, Subkind, Submitted, Target,
 };
-use jsh_text::{NoMemory, UText};
+use jsh_text::{KindName, NoMemory, UText};
 use jsh_tree::{Code, Diagnostic, Name, Seq, SrcText};
 use std::alloc::Global;
 use std::test::Fail;
@@ -207,6 +207,180 @@ fn writes_values(rt: HostRuntime) -> Result<(), Fail> {
     Ok(())
 }
 
+#[test]
+fn names_snippets(rt: HostRuntime) -> Result<(), Fail> {
+    let alloc = rt.alloc();
+    let target = Target::Id(9);
+    let unknown = refused(
+        alloc,
+        Act::Drop { target },
+        Refusal::NoSuchSnippet { id: 9, count: 3 },
+    )?;
+    assert_eq!(rt; unknown.as_slice(), b"|  no snippet 9\n".as_slice());
+    let name = Name::from_text(alloc, "z")?;
+    let target = Target::Named(Name::from_text(alloc, "z")?);
+    let unnamed = refused(
+        alloc,
+        Act::Drop { target },
+        Refusal::NoSuchName { name, matches: 0 },
+    )?;
+    assert_eq!(rt;
+        unnamed.as_slice(),
+        b"|  0 live snippets are named z\n".as_slice()
+    );
+    Ok(())
+}
+
+#[test]
+fn names_fates(rt: HostRuntime) -> Result<(), Fail> {
+    let rows = [
+        (Fate::Dropped, "|  snippet 1 is DROPPED\n"),
+        (Fate::Overwritten, "|  snippet 1 is OVERWRITTEN\n"),
+        (Fate::Rejected, "|  snippet 1 is REJECTED\n"),
+    ];
+    for (fate, want) in rows {
+        let target = Target::Id(1);
+        let bytes = refused(
+            rt.alloc(),
+            Act::Drop { target },
+            Refusal::NotLive { id: 1, fate },
+        )?;
+        assert_eq!(rt; bytes.as_slice(), want.as_bytes(), "{want}");
+    }
+    Ok(())
+}
+
+/// What a run is asked for gives, at a run with the name `x`.
+fn ended(alloc: Global, outcome: Outcome) -> Result<Vec<u8>, NoMemory> {
+    let name = UText::from_str(alloc, "x")?;
+    let over = Collected::Over {
+        id: 1,
+        name,
+        outcome,
+    };
+    rendered(alloc, Act::Collect { run: 1 }, ReplyBody::Collected(over))
+}
+
+fn thrown(alloc: Global, message: Option<&str>) -> Result<Vec<u8>, NoMemory> {
+    let class = UText::from_str(alloc, "java.lang.ArithmeticException")?;
+    let message = match message {
+        None => None,
+        Some(message) => Some(UText::from_str(alloc, message)?),
+    };
+    ended(alloc, Outcome::Thrown { class, message })
+}
+
+fn unresolved(alloc: Global, name: &str, missing: &[&str]) -> Result<Vec<u8>, NoMemory> {
+    let mut names = Vec::new(alloc);
+    for name in missing {
+        names.push(Name::from_text(alloc, name)?)?;
+    }
+    let name = UText::from_str(alloc, name)?;
+    let missing = Seq::from_vec(names);
+    ended(
+        alloc,
+        Outcome::Unresolved {
+            id: 1,
+            name,
+            missing,
+        },
+    )
+}
+
+#[test]
+fn tells_exceptions(rt: HostRuntime) -> Result<(), Fail> {
+    let alloc = rt.alloc();
+    assert_eq!(rt;
+        thrown(alloc, Some("/ by zero"))?.as_slice(),
+        b"|  Exception java.lang.ArithmeticException: / by zero\n".as_slice()
+    );
+    assert_eq!(rt;
+        thrown(alloc, None)?.as_slice(),
+        b"|  Exception java.lang.ArithmeticException\n".as_slice()
+    );
+    Ok(())
+}
+
+/// What was called, the names that are missing, and the line.
+const ATTEMPTS: [(&str, &[&str], &str); 5] = [
+    (
+        "f()",
+        &["g"],
+        "|  attempted to call f() which cannot be invoked until g is declared\n",
+    ),
+    (
+        "f(int)",
+        &["g", "x", "g"],
+        "|  attempted to call f(int) which cannot be invoked until g and x are declared\n",
+    ),
+    (
+        "class A",
+        &["f", "g", "x"],
+        "|  attempted to use class A which cannot be invoked until f, g and x are declared\n",
+    ),
+    ("f()", &[], "|  attempted to call f() which has errors\n"),
+    (
+        "class A",
+        &[],
+        "|  attempted to use class A which has errors\n",
+    ),
+];
+
+#[test]
+fn tells_attempts(rt: HostRuntime) -> Result<(), Fail> {
+    for (name, missing, want) in ATTEMPTS {
+        let bytes = unresolved(rt.alloc(), name, missing)?;
+        assert_eq!(rt; bytes.as_slice(), want.as_bytes(), "{want}");
+    }
+    Ok(())
+}
+
+fn stalled(alloc: Global, numbers: &[u32]) -> Result<Vec<u8>, NoMemory> {
+    let threads = Seq::from_vec(Vec::from_slice(alloc, numbers)?);
+    ended(alloc, Outcome::Stalled { threads })
+}
+
+#[test]
+fn tells_ends(rt: HostRuntime) -> Result<(), Fail> {
+    let alloc = rt.alloc();
+    let stopped = ended(alloc, Outcome::Stopped { by: 2 })?;
+    assert_eq!(rt; stopped.as_slice(), b"|  stopped by client 2\n".as_slice());
+    let spent = ended(alloc, Outcome::Spent { steps: 1000 })?;
+    assert_eq!(rt;
+        spent.as_slice(),
+        b"|  stopped after 1000 steps\n".as_slice()
+    );
+    let wanted = KindName::Int;
+    let found = KindName::Text;
+    let wrong = ended(alloc, Outcome::Wrong { wanted, found })?;
+    assert_eq!(rt; wrong.as_slice(), b"|  wrong kind: int, text\n".as_slice());
+    assert!(rt; ended(alloc, Outcome::Finished)?.is_empty());
+    assert!(rt; ended(alloc, Outcome::NoRun)?.is_empty());
+    Ok(())
+}
+
+#[test]
+fn tells_stalls(rt: HostRuntime) -> Result<(), Fail> {
+    let alloc = rt.alloc();
+    let two = stalled(alloc, &[3, 4])?;
+    assert_eq!(rt; two.as_slice(), b"|  stalled: 3, 4\n".as_slice());
+    let one = stalled(alloc, &[7])?;
+    assert_eq!(rt; one.as_slice(), b"|  stalled: 7\n".as_slice());
+    let three = stalled(alloc, &[1, 2, 13])?;
+    assert_eq!(rt; three.as_slice(), b"|  stalled: 1, 2, 13\n".as_slice());
+    Ok(())
+}
+
+#[test]
+fn tells_stops_and_resets(rt: HostRuntime) -> Result<(), Fail> {
+    let alloc = rt.alloc();
+    let stopped = rendered(alloc, Act::Stop { run: 1 }, ReplyBody::StopDone { run: 1 })?;
+    assert_eq!(rt; stopped.as_slice(), b"|  run 1 stopped\n".as_slice());
+    let reset = rendered(alloc, Act::Reset, ReplyBody::ResetDone { records: 2 })?;
+    assert_eq!(rt; reset.as_slice(), b"|  Resetting state.\n".as_slice());
+    Ok(())
+}
+
 fn answered(alloc: Global, lines: &[&str]) -> Result<Vec<u8>, NoMemory> {
     let mut answer = Vec::new(alloc);
     for line in lines {
@@ -234,9 +408,17 @@ fn writes_lines_of_answers(rt: HostRuntime) -> Result<(), Fail> {
 #[test]
 fn writes_nothing(rt: HostRuntime) -> Result<(), Fail> {
     let alloc = rt.alloc();
-    let accepted = submitted(alloc, Seq::new(alloc));
-    assert!(rt; rendered(alloc, Act::Leave, accepted)?.is_empty());
     assert!(rt; rendered(alloc, Act::Leave, ReplyBody::Left)?.is_empty());
+    assert!(rt; rendered(alloc, Act::Close, ReplyBody::Closed)?.is_empty());
+    assert!(rt; rendered(alloc, Act::Enter, ReplyBody::Entered { number: 1 })?.is_empty());
+    let turn = Act::Turn {
+        thread: 1,
+        steps: 9,
+    };
+    assert!(rt; rendered(alloc, turn, ReplyBody::Turned { steps: 2 })?.is_empty());
+    let running = Collected::Running { steps: 2 };
+    let collect = Act::Collect { run: 1 };
+    assert!(rt; rendered(alloc, collect, ReplyBody::Collected(running))?.is_empty());
     Ok(())
 }
 

@@ -1,7 +1,6 @@
 -- How the lines of a piece of input are served.
 use Rattle.std.proofs.Common.{◌≡◌, ℕ, ◌+◌, ◌==◌, ◌||◌, Bool, true, false, List, [], ◌∷◌, ◌++◌, map, Option, None, Some, MatchOption, take, drop, refl, ap, sym, subst, ◌∙◌, append_assoc, append-nil}
 use Rattle.std.proofs.lemmas.List.{drop-drop}
-use Rattle.jsh_snippet.specs.declared.acts.Entry.{Entry}
 use Rattle.jsh_lines.specs.Lines.{Cut, IsFirstLineFeed, as_text, cut, has_line_feed}
 use Rattle.jsh_lines.proofs.Cuts.{cut-line, cut-no_line, has_line_feed-uncut}
 use Rattle.jsh_cut.specs.declared.command.Command.{Command}
@@ -11,20 +10,21 @@ use Rattle.jsh_shell.specs.Cutting.{ServesCut, piece_gives}
 use Rattle.jsh_shell.specs.declared.halts.Halt.{Halt}
 use Rattle.jsh_shell.specs.declared.halts.Halt.TheVariants as halt
 use Rattle.jsh_shell.specs.declared.lines.Behind.{Behind}
-use Rattle.jsh_shell.specs.Budget.{default_budget}
+use Rattle.jsh_shell.specs.declared.session.Session.{Session}
+use Rattle.jsh_shell.specs.Progress.Phase.{Between}
 use Rattle.jsh_shell.specs.Serving.{Serves, ServesPart}
 use Rattle.jsh_shell.proofs.Onward.{with_both, onward_on, onward_out, onward_front}
 use Rattle.jsh_shell.proofs.ServeLemmas.{serves-nothing, serves-append, serves-part-append, serves-part-more, part-for-memory}
 
 -- Of what these bytes give behind a text, some commands were served, and these bytes are left behind another text.
-pub record IsAlong (client : ℕ) (first now : List Entry) (x y : Option (List ℕ)) (before held : Held) (bytes left : List ℕ) : Type 0 where
+pub record IsAlong (budget client : ℕ) (first now : Session) (x y : Option (List ℕ)) (before held : Held) (bytes left : List ℕ) : Type 0 where
   pub served : List Command
-  pub serves : Serves default_budget client first now x y served
+  pub serves : Serves budget client Between Between first now x y served
   pub gives : piece_gives before bytes ≡ with_commands served (piece_gives held left)
   pub rest : (cut bytes).rest ≡ (cut left).rest
 
-pub along-start : (client : ℕ) (h : List Entry) (x : Option (List ℕ)) (before : Held) (bytes : List ℕ) → IsAlong client h h x x before before bytes bytes
-along-start client h x before bytes = record { served = []; serves = serves-nothing client h x; gives = refl; rest = refl }
+pub along-start : (budget client : ℕ) (h : Session) (x : Option (List ℕ)) (before : Held) (bytes : List ℕ) → IsAlong budget client h h x x before before bytes bytes
+along-start budget client h x before bytes = record { served = []; serves = serves-nothing budget client Between h x; gives = refl; rest = refl }
 
 or_cases : (t rest more : Bool) → (rest ≡ false → more ≡ false) → (t || rest) ≡ false → (t || more) ≡ false
 or_cases true rest more along e = cc
@@ -49,22 +49,22 @@ line_first held begun rest at uncut feed = ap (λ (c : Cut). gives_of c) (cut-be
     gives_of c = cut_lines held (map as_text c.whole)
 
 -- what all the bytes give, with the first line that is left
-all_gives : (client : ℕ) (a b : List Entry) (x y : Option (List ℕ)) (before held : Held) (bytes begun rest : List ℕ) (at : ℕ) →
-    (along : IsAlong client a b x y before held bytes (begun ++ rest)) → (cut begun).rest ≡ begun → IsFirstLineFeed rest at →
+all_gives : (budget client : ℕ) (a b : Session) (x y : Option (List ℕ)) (before held : Held) (bytes begun rest : List ℕ) (at : ℕ) →
+    (along : IsAlong budget client a b x y before held bytes (begun ++ rest)) → (cut begun).rest ≡ begun → IsFirstLineFeed rest at →
     piece_gives before bytes ≡ with_commands along.served (onward (cut_line held (as_text (begun ++ take at rest))) (λ h. piece_gives h (drop (at + 1) rest)))
-all_gives client a b x y before held bytes begun rest at along uncut feed =
+all_gives budget client a b x y before held bytes begun rest at along uncut feed =
     along.gives ∙ ap (with_commands along.served) (line_first held begun rest at uncut feed)
 
 -- a line more was served
-pub along-line : (client : ℕ) (a b c : List Entry) (x y z : Option (List ℕ)) (before held : Held) (behind : Behind) (bytes begun rest : List ℕ) (at : ℕ) →
-    IsAlong client a b x y before held bytes (begun ++ rest) → (cut begun).rest ≡ begun → IsFirstLineFeed rest at →
-    ServesCut default_budget client b c y z (cut_line held (as_text (begun ++ take at rest))) behind → behind.exits ≡ false →
-    IsAlong client a c x z before behind.held bytes (drop (at + 1) rest)
-along-line client a b c x y z before held behind bytes begun rest at along uncut feed s on =
+pub along-line : (budget client : ℕ) (a b c : Session) (x y z : Option (List ℕ)) (before held : Held) (behind : Behind) (bytes begun rest : List ℕ) (at : ℕ) →
+    IsAlong budget client a b x y before held bytes (begun ++ rest) → (cut begun).rest ≡ begun → IsFirstLineFeed rest at →
+    ServesCut budget client b c y z (cut_line held (as_text (begun ++ take at rest))) behind → behind.exits ≡ false →
+    IsAlong budget client a c x z before behind.held bytes (drop (at + 1) rest)
+along-line budget client a b c x y z before held behind bytes begun rest at along uncut feed s on =
     let line : Gives = cut_line held (as_text (begun ++ take at rest)) in record {
       served = along.served ++ line.commands;
-      serves = serves-append client a b c x y z along.served line.commands along.serves s.serves;
-      gives = all_gives client a b x y before held bytes begun rest at along uncut feed
+      serves = serves-append budget client Between Between Between a b c x y z along.served line.commands along.serves s.serves;
+      gives = all_gives budget client a b x y before held bytes begun rest at along uncut feed
           ∙ ap (with_commands along.served) (onward_on line (λ h. piece_gives h (drop (at + 1) rest)) (sym s.exits ∙ on))
           ∙ with_both along.served line.commands (piece_gives line.held (drop (at + 1) rest))
           ∙ ap (λ (h : Held). with_commands (along.served ++ line.commands) (piece_gives h (drop (at + 1) rest))) (sym s.held);
@@ -72,58 +72,58 @@ along-line client a b c x y z before held behind bytes begun rest at along uncut
     }
 
 -- a line was served that exits
-pub along-exit : (client : ℕ) (a b c : List Entry) (x y z : Option (List ℕ)) (before held : Held) (behind : Behind) (bytes begun rest : List ℕ) (at : ℕ) →
-    IsAlong client a b x y before held bytes (begun ++ rest) → (cut begun).rest ≡ begun → IsFirstLineFeed rest at →
-    ServesCut default_budget client b c y z (cut_line held (as_text (begun ++ take at rest))) behind → behind.exits ≡ true →
-    ServesCut default_budget client a c x z (piece_gives before bytes) behind
-along-exit client a b c x y z before held behind bytes begun rest at along uncut feed s out =
+pub along-exit : (budget client : ℕ) (a b c : Session) (x y z : Option (List ℕ)) (before held : Held) (behind : Behind) (bytes begun rest : List ℕ) (at : ℕ) →
+    IsAlong budget client a b x y before held bytes (begun ++ rest) → (cut begun).rest ≡ begun → IsFirstLineFeed rest at →
+    ServesCut budget client b c y z (cut_line held (as_text (begun ++ take at rest))) behind → behind.exits ≡ true →
+    ServesCut budget client a c x z (piece_gives before bytes) behind
+along-exit budget client a b c x y z before held behind bytes begun rest at along uncut feed s out =
     let line : Gives = cut_line held (as_text (begun ++ take at rest)) in
     let is : piece_gives before bytes ≡ with_commands along.served line =
-    all_gives client a b x y before held bytes begun rest at along uncut feed
+    all_gives budget client a b x y before held bytes begun rest at along uncut feed
     ∙ ap (with_commands along.served) (onward_out line (λ h. piece_gives h (drop (at + 1) rest)) (sym s.exits ∙ out)) in record {
-      serves = subst (λ (g : Gives). Serves default_budget client a c x z g.commands) (sym is)
-          (serves-append client a b c x y z along.served line.commands along.serves s.serves);
+      serves = subst (λ (g : Gives). Serves budget client Between Between a c x z g.commands) (sym is)
+          (serves-append budget client Between Between Between a b c x y z along.served line.commands along.serves s.serves);
       held = s.held ∙ ap (λ (g : Gives). g.held) (sym is);
       exits = s.exits ∙ ap (λ (g : Gives). g.exits) (sym is);
     }
 
 -- the serving of a line halted
-pub along-part : (why : Halt) (client : ℕ) (a b c : List Entry) (x y z : Option (List ℕ)) (before held : Held) (bytes begun rest : List ℕ) (at : ℕ) →
-    IsAlong client a b x y before held bytes (begun ++ rest) → (cut begun).rest ≡ begun → IsFirstLineFeed rest at →
-    ServesPart why default_budget client b c y z (cut_line held (as_text (begun ++ take at rest))).commands → ServesPart why default_budget client a c x z (piece_gives before bytes).commands
-along-part why client a b c x y z before held bytes begun rest at along uncut feed s =
+pub along-part : (why : Halt) (budget client : ℕ) (a b c : Session) (x y z : Option (List ℕ)) (before held : Held) (bytes begun rest : List ℕ) (at : ℕ) →
+    IsAlong budget client a b x y before held bytes (begun ++ rest) → (cut begun).rest ≡ begun → IsFirstLineFeed rest at →
+    ServesPart why budget client Between b c y z (cut_line held (as_text (begun ++ take at rest))).commands → ServesPart why budget client Between a c x z (piece_gives before bytes).commands
+along-part why budget client a b c x y z before held bytes begun rest at along uncut feed s =
     let line : Gives = cut_line held (as_text (begun ++ take at rest)) in
     let front = onward_front line (λ h. piece_gives h (drop (at + 1) rest)) in
-    subst (λ (cs : List Command). ServesPart why default_budget client a c x z cs)
-    (sym (ap (λ (g : Gives). g.commands) (all_gives client a b x y before held bytes begun rest at along uncut feed) ∙ ap (λ (cs : List Command). along.served ++ cs) front.1))
-    (serves-part-append why client a b c x y z along.served (line.commands ++ front.0) along.serves
-    (serves-part-more why client b c y z line.commands front.0 s))
+    subst (λ (cs : List Command). ServesPart why budget client Between a c x z cs)
+    (sym (ap (λ (g : Gives). g.commands) (all_gives budget client a b x y before held bytes begun rest at along uncut feed) ∙ ap (λ (cs : List Command). along.served ++ cs) front.1))
+    (serves-part-append why budget client Between Between a b c x y z along.served (line.commands ++ front.0) along.serves
+    (serves-part-more why budget client Between b c y z line.commands front.0 s))
 
 -- want of memory on the way
-pub along-memory : (client : ℕ) (a b : List Entry) (x y : Option (List ℕ)) (before held : Held) (bytes left : List ℕ) →
-    IsAlong client a b x y before held bytes left → ServesPart halt.NoMemory default_budget client a b x y (piece_gives before bytes).commands
-along-memory client a b x y before held bytes left along =
-    subst (λ (g : Gives). ServesPart halt.NoMemory default_budget client a b x y g.commands) (sym along.gives)
-    (serves-part-append halt.NoMemory client a b b x y y along.served (piece_gives held left).commands along.serves (part-for-memory client b y (piece_gives held left).commands))
+pub along-memory : (budget client : ℕ) (a b : Session) (x y : Option (List ℕ)) (before held : Held) (bytes left : List ℕ) →
+    IsAlong budget client a b x y before held bytes left → ServesPart halt.NoMemory budget client Between a b x y (piece_gives before bytes).commands
+along-memory budget client a b x y before held bytes left along =
+    subst (λ (g : Gives). ServesPart halt.NoMemory budget client Between a b x y g.commands) (sym along.gives)
+    (serves-part-append halt.NoMemory budget client Between Between a b b x y y along.served (piece_gives held left).commands along.serves (part-for-memory budget client Between b y (piece_gives held left).commands))
 
 -- no line is left
 left_none : (begun rest : List ℕ) → (cut begun).rest ≡ begun → has_line_feed rest ≡ false → cut (begun ++ rest) ≡ record { whole = []; rest = begun ++ rest }
 left_none begun rest uncut none = cut-no_line (begun ++ rest) (no_feed-append begun rest (has_line_feed-uncut begun uncut) none)
 
-pub along-end : (client : ℕ) (a b : List Entry) (x y : Option (List ℕ)) (before held : Held) (bytes begun rest : List ℕ) →
-    IsAlong client a b x y before held bytes (begun ++ rest) → (cut begun).rest ≡ begun → has_line_feed rest ≡ false →
-    ServesCut default_budget client a b x y (piece_gives before bytes) (record { held = held; exits = false })
-along-end client a b x y before held bytes begun rest along uncut none =
+pub along-end : (budget client : ℕ) (a b : Session) (x y : Option (List ℕ)) (before held : Held) (bytes begun rest : List ℕ) →
+    IsAlong budget client a b x y before held bytes (begun ++ rest) → (cut begun).rest ≡ begun → has_line_feed rest ≡ false →
+    ServesCut budget client a b x y (piece_gives before bytes) (record { held = held; exits = false })
+along-end budget client a b x y before held bytes begun rest along uncut none =
     let is : piece_gives before bytes ≡ record { commands = along.served ++ []; held = held; exits = false } =
     along.gives ∙ ap (λ (k : Cut). with_commands along.served (cut_lines held (map as_text k.whole))) (left_none begun rest uncut none) in record {
-      serves = subst (λ (cs : List Command). Serves default_budget client a b x y cs) (sym (ap (λ (g : Gives). g.commands) is ∙ append-nil along.served)) along.serves;
+      serves = subst (λ (cs : List Command). Serves budget client Between Between a b x y cs) (sym (ap (λ (g : Gives). g.commands) is ∙ append-nil along.served)) along.serves;
       held = ap (λ (g : Gives). g.held) (sym is);
       exits = ap (λ (g : Gives). g.exits) (sym is);
     }
 
-pub along-rest : (client : ℕ) (a b : List Entry) (x y : Option (List ℕ)) (before held : Held) (bytes begun rest : List ℕ) →
-    IsAlong client a b x y before held bytes (begun ++ rest) → (cut begun).rest ≡ begun → has_line_feed rest ≡ false → (cut bytes).rest ≡ begun ++ rest
-along-rest client a b x y before held bytes begun rest along uncut none =
+pub along-rest : (budget client : ℕ) (a b : Session) (x y : Option (List ℕ)) (before held : Held) (bytes begun rest : List ℕ) →
+    IsAlong budget client a b x y before held bytes (begun ++ rest) → (cut begun).rest ≡ begun → has_line_feed rest ≡ false → (cut bytes).rest ≡ begun ++ rest
+along-rest budget client a b x y before held bytes begun rest along uncut none =
     along.rest ∙ ap (λ (k : Cut). k.rest) (left_none begun rest uncut none)
 
 -- what stands behind a line feed

@@ -1,6 +1,6 @@
 -- How what follows one after another follows as a whole.
 use Rattle.std.proofs.Common.{◌≡◌, ℕ, ◌+◌, ◌<◌, ◌≤◌, Bool, true, false, List, [], ◌∷◌, ◌++◌, Option, None, Some, length, take, refl, ap, sym, subst, ◌∙◌, arith, append_assoc, append-nil, length-append, eq-eqb, ◌||◌, inl, inr}
-use Rattle.std.proofs.Math.Seq.{take-append-add}
+use Rattle.std.proofs.Math.Seq.{take-append-add, take-length}
 use Rattle.std.specs.Io.KnownBytes.{append_known}
 use Rattle.std.specs.List.{slice_get, list_any}
 use Rattle.std.proofs.lemmas.List.Elements.{All-append, All-cons, All-nil}
@@ -15,14 +15,14 @@ use Rattle.jsh_core.specs.Step.{step, kept, kept_act}
 use Rattle.jsh_core.specs.Acts.{is_last}
 use Rattle.jsh_core.specs.Stands.{IsCutShort}
 use Rattle.jsh_core.specs.History.{state_of, state_after, is_close}
-use Rattle.jsh_core.proofs.Steps.{leaves, step-fits, step-present}
+use Rattle.jsh_core.proofs.Steps.{leaves, step-present}
 use Rattle.jsh_shell.specs.declared.halts.Halt.{Halt}
 use Rattle.jsh_shell.specs.declared.halts.Halt.TheVariants as halt
-use Rattle.jsh_shell.specs.Progress.{Progress, Goes, GoesOn, OwnGoes, Follows}
+use Rattle.jsh_shell.specs.Progress.{Progress, Goes, GoesOn, OwnGoes, Follows, is_limit}
 use Rattle.jsh_shell.specs.Progress.Phase.{CutShort}
 use Rattle.jsh_shell.specs.Transcript.{shown_to, transcript_after, is_turn}
 use Rattle.jsh_shell.specs.Limited.{IsLimited}
-use Rattle.jsh_shell.specs.Serving.{Advances, AreOwn, Fails, Halts, IsOpen, Shows, WritesPart}
+use Rattle.jsh_shell.specs.Serving.{Advances, AreOwn, Fails, Halts, IsOpen, IsRefused, Shows, WritesPart}
 
 pub state_after-append : (s : State) (xs ys : List Entry) → state_after s (xs ++ ys) ≡ state_after (state_after s xs) ys
 state_after-append s [] ys = refl
@@ -211,23 +211,47 @@ advances-act budget client history after held now what reply p q shows quiet goe
     (transcript-own client (state_of history) what quiet)
     (shows.written ∙ ap (λ (r : Reply). append_known held (shown (record { client = client; act = what }) r)) shows.reply)
 
--- it was not done, or of its answer a part was written
+-- who has advanced to a limit is served no further
+pub advances-as-halt : {budget client : ℕ} {before after : List Entry} {held now : Option (List ℕ)} {p q : Progress} →
+    Advances budget client before after held now p q → IsLimited after q → (q.phase ≡ CutShort → ⊥) → q.has_left ≡ false →
+    Halts halt.Limit budget client before after held now p q
+advances-as-halt {client = client} {before = before} {held = held} a limit phase here = record {
+  entries = a.entries;
+  grows = a.grows;
+  own = a.own;
+  follows = a.follows;
+  count = length (transcript_after client (state_of before) a.entries);
+  written = a.written ∙ ap (append_known held) (sym (take-length (transcript_after client (state_of before) a.entries)));
+  whole = λ e. omega arith;
+  limit = λ e. limit;
+  phase = λ e. absurd (phase e);
+  has_left = here;
+}
+
+-- it was not done, or of its answer a part was written, or it was refused at a limit
 pub halts-act : (why : Halt) (budget client : ℕ) (history after : List Entry) (held now : Option (List ℕ)) (what : Act) (p q : Progress) →
     Fails why history after (record { client = client; act = what }) held now → is_turn what ≡ false →
     Goes budget client (state_of history) p (record { client = client; act = what }) q →
+    q.limited ≡ is_limit (step (state_of history) (record { client = client; act = what })).reply.body →
     (q.phase ≡ CutShort → ⊥) → p.has_left ≡ false → q.has_left ≡ false →
     (r : Progress) × Halts why budget client history after held now p r
-halts-act why budget client history after held now what p q (inl same) quiet goes behind here there = (
+halts-act why budget client history after held now what p q (inl same) quiet goes limited behind here there = (
   p,
   subst (λ (h : List Entry). Halts why budget client history h held now p p) (sym same.0)
       (subst (λ (x : Option (List ℕ)). Halts why budget client history history held x p p) (sym same.1)
       (halts-here why budget client history held p (λ e. cc) (λ e. same.2) here)),
 )
-halts-act why budget client history after held now what p q (inr broken) quiet goes behind here there = (
+halts-act why budget client history after held now what p q (inr (inl broken)) quiet goes limited behind here there = (
   q,
   halts-one why budget client history after held now p q what _ broken.0.part.0 broken.0.grows goes
       (transcript-own client (state_of history) what quiet)
       broken.0.part.1 (λ e. absurd (broken.1 e)) (λ e. absurd (broken.1 e)) (λ e. absurd (behind e)) there,
+)
+halts-act why budget client history after held now what p q (inr (inr refused)) quiet goes limited behind here there = (
+  q,
+  subst (λ (w : Halt). Halts w budget client history after held now p q) (sym refused.1)
+      (advances-as-halt (advances-act budget client history after held now what refused.0.0 p q refused.0.1 quiet goes)
+      (inl (limited ∙ ap (λ (r : Reply). is_limit r.body) (sym refused.0.1.reply) ∙ refused.0.2)) behind there),
 )
 
 not_closed_cases : (b : Bool) (rest more : Bool) → (rest ≡ false → more ≡ false) → (b || rest) ≡ false → (b || more) ≡ false
@@ -260,7 +284,6 @@ open-push client history after e o stays grows = subst (λ (h : List Entry). IsO
   present = subst (λ (s : State). slice_get s.clients client ≡ Some true) (sym behind) (step-present (state_of history) e client o.present (stays-there e.client client e.act stays));
   root = subst (λ (s : State). slice_get s.clients 0 ≡ Some true) (sym behind) (step-present (state_of history) e 0 o.root (stays-there e.client 0 e.act stays));
   «open» = not_closed-push history e (stays-open e.act stays) o.«open»;
-  states = subst (λ (s : State). length s.world.states ≡ length s.world.threads) (sym behind) (step-fits (state_of history) e o.states);
 })
   where
     behind : state_of (history ++ e ∷ []) ≡ (step (state_of history) e).state

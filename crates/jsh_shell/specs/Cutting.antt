@@ -1,16 +1,17 @@
 -- What was served of a client's input as far as it is cut, and what stands behind that.
 use Rattle.std.specs.Prelude.{◌≡◌, ℕ, not, List, [], ◌++◌, map, Option, if◌then◌else◌}
-use Rattle.jsh_snippet.specs.declared.acts.Entry.{Entry}
 use Rattle.jsh_lines.specs.Lines.{as_text, cut, last_lines}
 use Rattle.jsh_cut.specs.declared.command.Command.{Command}
 use Rattle.jsh_cut.specs.declared.held.Held.{Held}
 use Rattle.jsh_cut.specs.Commands.{Gives, cut_lines, cut_end}
 use Rattle.jsh_shell.specs.declared.lines.Behind.{Behind}
+use Rattle.jsh_shell.specs.declared.session.Session.{Session}
+use Rattle.jsh_shell.specs.Progress.Phase.{Between}
 use Rattle.jsh_shell.specs.Serving.{Serves}
 
 -- the commands were served that lines give before they exit, and this stands behind them
-pub record ServesCut (budget client : ℕ) (before after : List Entry) (held_before held_after : Option (List ℕ)) (gives : Gives) (behind : Behind) : Type 0 where
-  pub serves : Serves budget client before after held_before held_after gives.commands
+pub record ServesCut (budget client : ℕ) (before after : Session) (held_before held_after : Option (List ℕ)) (gives : Gives) (behind : Behind) : Type 0 where
+  pub serves : Serves budget client Between Between before after held_before held_after gives.commands
   pub held : behind.held ≡ gives.held
   pub exits : behind.exits ≡ gives.exits
 

@@ -9,11 +9,11 @@ use Rattle.jsh_snippet.specs.declared.acts.Act.TheVariants as act
 use Rattle.jsh_snippet.specs.declared.acts.Entry.{Entry}
 use Rattle.jsh_cut.specs.Commands.{before_exit, exits}
 use Rattle.jsh_core.specs.State.{opening}
-use Rattle.jsh_shell.specs.Progress.{Progress, Follows, begins}
-use Rattle.jsh_shell.specs.Progress.Phase.{Between, CutShort}
+use Rattle.jsh_shell.specs.Progress.{Progress, Follows, IsAtEnd, begins}
+use Rattle.jsh_shell.specs.Progress.Phase.{CutShort}
 use Rattle.jsh_shell.specs.Transcript.{transcript}
-use Rattle.jsh_shell.specs.Limited.{IsLimited}
-use Rattle.jsh_shell.specs.Budget.{most_input}
+use Rattle.jsh_shell.specs.Limited.{IsLimited, IsSurelyLimited}
+use Rattle.jsh_shell.specs.Input.{most_input}
 use Rattle.jsh_shell.specs.Statuses.{all_served, limit_met, memory_short, read_failed, write_failed}
 
 abbrev pub entry_of : ℕ → Act → Entry
@@ -32,9 +32,9 @@ pub record Leaves (client : ℕ) (journal : List Entry) : Type 0 where
   pub whole : journal ≡ before ++ entry_of client act.Leave ∷ after
   pub nothing : All (λ (entry : Entry). entry.client ≡ client → ⊥) after
 
--- all commands have their entries, and the client has left between two commands, at no limit
+-- all commands have all their entries, and the last of these wasn't refused at a limit
 pub record IsDone (p : Progress) : Type 0 where
-  pub phase : p.phase ≡ Between
+  pub at_end : IsAtEnd p
   pub commands : p.commands ≡ []
   pub limited : p.limited ≡ false
 
@@ -47,7 +47,7 @@ pub record IsServed (budget client status : ℕ) (journal : List Entry) (given l
   pub reads : given ≡ prepend_known read left
   pub all_read : ended ≡ true → IfSome left (λ rest. rest ≡ [])
   pub few : length read ≤ most_input
-  -- its entries are those of its commands, in order and without the exit, and then its leave
+  -- its entries are those of its commands, in order and without the exit, as far as it has come, and then its leave
   pub progress : Progress
   pub follows : Follows budget client opening (begins (before_exit read ended)) journal progress
   pub has_left : progress.has_left ≡ true
@@ -57,11 +57,11 @@ pub record IsServed (budget client status : ℕ) (journal : List Entry) (given l
   pub ok : status ≡ all_served → IsDone progress × (exits read ended ≡ true) × (length read < most_input)
   pub failed_read_part : status ≡ read_failed → IsDone progress × (exits read ended ≡ false) × (length read < most_input)
   pub limited : status ≡ limit_met → IsLimited leaves.before progress ⊎ (IsDone progress × (ended ≡ false) × (length read ≡ most_input))
-  pub at_limit : IsLimited leaves.before progress ⊎ (length read ≡ most_input) → (Rose writes_before writes_after → ⊥) → (status ≡ limit_met) ⊎ (status ≡ memory_short)
+  pub at_limit : IsSurelyLimited leaves.before progress ⊎ (length read ≡ most_input) → (Rose writes_before writes_after → ⊥) → (status ≡ limit_met) ⊎ (status ≡ memory_short)
   pub memory : progress.phase ≡ CutShort → status ≡ memory_short
-  -- a read that failed decides the status, and so does a write: with any other status none did
+  -- a read that failed decides the status, unless the last write fails or has no memory, and a write that failed always does
   pub source_failed : status ≡ read_failed → Rose reads_before reads_after
-  pub source_well : (reads_after ≡ reads_before) ⊎ (status ≡ read_failed)
+  pub source_well : (reads_after ≡ reads_before) ⊎ (status ≡ read_failed) ⊎ (status ≡ write_failed) ⊎ (status ≡ memory_short)
   pub sink_failed : status ≡ write_failed → Rose writes_before writes_after
   pub sink_well : (writes_after ≡ writes_before) ⊎ (status ≡ write_failed)
   -- what it was written

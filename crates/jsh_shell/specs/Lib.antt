@@ -1,9 +1,11 @@
-pub mod Budget
+pub mod Input
 pub mod Statuses
+pub mod Served
 pub mod Progress
 pub mod Transcript
 pub mod Limited
 pub mod Serving
+pub mod Driving
 pub mod Cutting
 pub mod Journal
 pub mod Upcoming

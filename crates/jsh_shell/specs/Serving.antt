@@ -1,69 +1,47 @@
 -- What a call on the engine and the sink of a client has brought about.
-use Rattle.std.specs.Prelude.{◌≡◌, ℕ, ◌<◌, ◌≤◌, Bool, true, false, List, [], ◌∷◌, ◌++◌, ◌⊎◌, ◌≢◌, IfSome, Option, None, Some, Result, Ok, Err, length, take, slice_get}
+use Rattle.std.specs.Prelude.{◌≡◌, ℕ, ◌<◌, ◌≤◌, ◌==◌, ◌||◌, Bool, true, false, List, [], ◌∷◌, ◌++◌, ◌⊎◌, ◌≢◌, IfSome, Option, None, Some, Result, Ok, Err, length, take, slice_get}
 use Rattle.std.specs.List.{All, list_any}
 use Rattle.std.specs.Io.KnownBytes.{append_known, prepend_known}
 use Rattle.jsh_io.specs.Count.{Rose}
 use Rattle.jsh_snippet.specs.declared.acts.Act.{Act}
+use Rattle.jsh_snippet.specs.declared.acts.Act.TheVariants as act
 use Rattle.jsh_snippet.specs.declared.acts.Entry.{Entry}
 use Rattle.jsh_snippet.specs.declared.replies.Reply.{Reply}
 use Rattle.jsh_render.specs.Texts.{shown}
 use Rattle.jsh_cut.specs.Commands.{before_exit, exits}
 use Rattle.jsh_cut.specs.declared.command.Command.{Command}
 use Rattle.jsh_cut.specs.declared.command.Command.TheVariants.{Eval, Slash, Exit}
-use Rattle.jsh_core.specs.declared.world.Thread.{Thread}
-use Rattle.jsh_core.specs.State.{State, numbered}
-use Rattle.jsh_core.specs.Snippets.{run_of}
-use Rattle.jsh_core.specs.Runs.{is_thread_alive}
+use Rattle.jsh_core.specs.State.{State}
 use Rattle.jsh_core.specs.Step.{step}
-use Rattle.jsh_core.specs.History.{state_of, act_bytes, is_close, MayDo}
-use Rattle.jsh_core.specs.Acts.{is_last}
+use Rattle.jsh_core.specs.Questions.{IsAnswered}
+use Rattle.jsh_core.specs.History.{state_of, is_close, IsTarget}
 use Rattle.jsh_shell.specs.declared.halts.Halt.{Halt}
 use Rattle.jsh_shell.specs.declared.halts.Halt.TheVariants as halt
-use Rattle.jsh_shell.specs.Progress.{Progress, Follows}
+use Rattle.jsh_shell.specs.declared.session.Session.{Session}
+use Rattle.jsh_shell.specs.declared.driving.Driven.{Driven}
+use Rattle.jsh_shell.specs.declared.driving.Driven.TheVariants as driven
+use Rattle.jsh_shell.specs.Progress.{Phase, Progress, Follows, is_limit, is_running}
 use Rattle.jsh_shell.specs.Progress.Phase.{Between, Evaluating, CutShort}
-use Rattle.jsh_shell.specs.Transcript.{is_turn, transcript_after}
-use Rattle.jsh_shell.specs.Limited.{HasRoomOf, IsLimited}
-use Rattle.jsh_shell.specs.Budget.{most_input}
+use Rattle.jsh_shell.specs.Transcript.{transcript_after}
+use Rattle.jsh_shell.specs.Limited.{IsLimited}
+use Rattle.jsh_shell.specs.Input.{most_input}
 use Rattle.jsh_shell.specs.Statuses.{all_served, limit_met, memory_short, read_failed, write_failed}
-use Rattle.jsh_core.specs.Fresh.{IsFresh}
 
 -- the client and the root may act, and nothing was closed
 pub record IsOpen (client : ℕ) (history : List Entry) : Type 0 where
   pub present : slice_get (state_of history).clients client ≡ Some true
   pub root : slice_get (state_of history).clients 0 ≡ Some true
   pub «open» : list_any (λ (e : Entry). is_close e.act) history ≡ false
-  -- each thread has a state
-  pub states : length (state_of history).world.states ≡ length (state_of history).world.threads
 
--- the client stands between two commands, at no limit, and these are left
-pub record IsBetween (s : State) (commands : List Command) (p : Progress) : Type 0 where
-  pub phase : p.phase ≡ Between
+-- the client stands in this phase, at no limit, and these commands are left
+pub record Stands (at : Phase) (session : Session) (commands : List Command) (p : Progress) : Type 0 where
+  pub phase : p.phase ≡ at
   pub left : p.commands ≡ commands
   pub limited : p.limited ≡ false
   pub has_left : p.has_left ≡ false
-  pub last_turn : p.last_turn ≤ length s.world.threads
-
--- the client stands in an evaluation whose run has had no turn
-pub record IsStarted (s : State) (run : ℕ) (commands : List Command) (p : Progress) : Type 0 where
-  pub phase : p.phase ≡ Evaluating run 0
-  pub left : p.commands ≡ commands
-  pub has_left : p.has_left ≡ false
-  pub last_turn : p.last_turn < length s.world.threads
-
--- the client stands in an evaluation whose run is its own and over
-pub record IsTaken (s : State) (client run : ℕ) (commands : List Command) (p : Progress) : Type 0 where
-  pub phase : p.phase ≡ Evaluating run 2
-  pub left : p.commands ≡ commands
-  pub has_left : p.has_left ≡ false
-  pub last_turn : p.last_turn ≤ length s.world.threads
-  pub main : ℕ
-  pub snippet : ℕ
-  pub thread : Thread
-  pub text : List ℕ
-  pub run_is : numbered s.world.runs run ≡ Some (record { owner = client; main = main; snippet = snippet; gone = false })
-  pub thread_is : numbered s.world.threads main ≡ Some thread
-  pub returned : thread.returned ≡ Some text
-  pub over : is_thread_alive s.world main ≡ false
+  -- the session knows the client's last turns
+  pub last_turn : p.last_turn ≡ session.last_turn
+  pub cursor : p.cursor ≡ session.cursor
 
 -- these entries are the client's own
 abbrev pub AreOwn : ℕ → List Entry → Type 0
@@ -117,63 +95,55 @@ pub record BreaksOff (before after : List Entry) (entry : Entry) (held_before he
   pub grows : after ≡ before ++ entry ∷ []
   pub part : WritesPart held_before held_after (shown entry (step (state_of before) entry).reply)
 
--- an act was not done for want of memory, or it broke off
+-- an act was refused at a limit, and that was written
+abbrev pub IsRefused : List Entry → List Entry → Entry → Option (List ℕ) → Option (List ℕ) → Type 0
+IsRefused before after entry held_before held_after =
+    (answer : Reply) × Shows before after entry answer held_before held_after × (is_limit answer.body ≡ true)
+
+-- an act was not done for want of memory, or it broke off, or it was refused at a limit
 abbrev pub Fails : Halt → List Entry → List Entry → Entry → Option (List ℕ) → Option (List ℕ) → Type 0
 Fails why before after entry held_before held_after =
     ((after ≡ before) × (held_after ≡ held_before) × (why ≡ halt.NoMemory))
     ⊎ (BreaksOff before after entry held_before held_after × (why ≢ halt.Limit))
+    ⊎ (IsRefused before after entry held_before held_after × (why ≡ halt.Limit))
 
--- these commands were served, whatever comes behind them
-pub record Serves (budget client : ℕ) (before after : List Entry) (held_before held_after : Option (List ℕ)) (served : List Command) : Type 0 where
-  pub each : (p : Progress) (more : List Command) → IsBetween (state_of before) (served ++ more) p →
-      (q : Progress) × Advances budget client before after held_before held_after p q × IsBetween (state_of after) more q
+-- These commands were served, from one phase to another, whatever comes behind them.
+pub record Serves (budget client : ℕ) (from to : Phase) (before after : Session) (held_before held_after : Option (List ℕ)) (served : List Command) : Type 0 where
+  pub each : (p : Progress) (more : List Command) → Stands from before (served ++ more) p →
+      (q : Progress) × Advances budget client before.core after.core held_before held_after p q × Stands to after more q
 
--- the serving of these commands halted
-pub record ServesPart (why : Halt) (budget client : ℕ) (before after : List Entry) (held_before held_after : Option (List ℕ)) (served : List Command) : Type 0 where
-  pub each : (p : Progress) (more : List Command) → IsBetween (state_of before) (served ++ more) p →
-      (q : Progress) × Halts why budget client before after held_before held_after p q
+-- The serving of these commands halted.
+pub record ServesPart (why : Halt) (budget client : ℕ) (from : Phase) (before after : Session) (held_before held_after : Option (List ℕ)) (served : List Command) : Type 0 where
+  pub each : (p : Progress) (more : List Command) → Stands from before (served ++ more) p →
+      (q : Progress) × Halts why budget client before.core after.core held_before held_after p q
 
--- behind a command that was handed in
-abbrev pub IsHandedIn : State → ℕ → Option ℕ → List Command → Progress → Type 0
-IsHandedIn s client None more q = IsBetween s more q
-IsHandedIn s client (Some run) more q = IsStarted s run more q × IsFresh s client run
+-- turns of a run were taken, behind some steps and up to others, and nothing was written
+abbrev pub Drives : ℕ → ℕ → ℕ → ℕ → ℕ → Session → Session → Type 0
+Drives budget client run used_before used_after before after =
+    (held : Option (List ℕ)) → Serves budget client (Evaluating run used_before) (Evaluating run used_after) before after held held []
 
--- a command was handed in, and may have got a run
-pub record HandsIn (budget client : ℕ) (before after : List Entry) (held_before held_after : Option (List ℕ)) (command : Command) (run : Option ℕ) : Type 0 where
-  pub each : (p : Progress) (more : List Command) → IsBetween (state_of before) (command ∷ more) p →
-      (q : Progress) × Advances budget client before after held_before held_after p q × IsHandedIn (state_of after) client run more q
+-- the taking of turns halted
+abbrev pub DrivesPart : Halt → ℕ → ℕ → ℕ → ℕ → Session → Session → Type 0
+DrivesPart why budget client run used before after =
+    (held : Option (List ℕ)) → ServesPart why budget client (Evaluating run used) before after held held []
 
--- the main thread of a run has done all its steps
-pub record Turns (budget client : ℕ) (before after : List Entry) (run : ℕ) : Type 0 where
-  pub each : (p : Progress) (more : List Command) (held : Option (List ℕ)) → IsStarted (state_of before) run more p →
-      (q : Progress) × Advances budget client before after held held p q × IsTaken (state_of after) client run more q
+-- a client that asks for the run isn't answered that it goes on
+abbrev pub GoesOnNoMore : List Entry → ℕ → ℕ → Type 0
+GoesOnNoMore history client run = is_running (step (state_of history) (record { client = client; act = act.Collect run })).reply.body ≡ false
 
-pub record TurnsPart (why : Halt) (budget client : ℕ) (before after : List Entry) (run : ℕ) : Type 0 where
-  pub each : (p : Progress) (more : List Command) (held : Option (List ℕ)) → IsStarted (state_of before) run more p →
-      (q : Progress) × Halts why budget client before after held held p q
+-- All turns of a run were taken: it goes on no more, below the budget, or the budget is used.
+abbrev pub DrivesTo : Driven → ℕ → ℕ → ℕ → Session → Session → Type 0
+DrivesTo driven.Still budget client run before after =
+    (used : ℕ) × (used < budget) × GoesOnNoMore after.core client run × Drives budget client run 0 used before after
+DrivesTo driven.Spent budget client run before after = Drives budget client run 0 budget before after
 
--- a run that is over was handed out
-pub record HandsOut (budget client : ℕ) (before after : List Entry) (held_before held_after : Option (List ℕ)) (run : ℕ) : Type 0 where
-  pub each : (p : Progress) (more : List Command) → IsTaken (state_of before) client run more p →
-      (q : Progress) × Advances budget client before after held_before held_after p q × IsBetween (state_of after) more q
-
-pub record HandsOutPart (why : Halt) (budget client : ℕ) (before after : List Entry) (held_before held_after : Option (List ℕ)) (run : ℕ) : Type 0 where
-  pub each : (p : Progress) (more : List Command) → IsTaken (state_of before) client run more p →
-      (q : Progress) × Halts why budget client before after held_before held_after p q
-
--- a run that a snippet got has had no turn
-abbrev pub IsRunFresh : State → ℕ → Option ℕ → Type 0
-IsRunFresh s client None = Unit {0}
-IsRunFresh s client (Some run) = IsFresh s client run
-
--- An act that a slash line may stand for: any client may do it where there is room for its text, it is no turn, the
--- client stays, no thread goes, and no run comes of it.
-pub record IsSlash (what : Act) : Type 0 where
-  pub may : (history : List Entry) (client : ℕ) → HasRoomOf history (act_bytes what) → MayDo history client what
-  pub quiet : is_turn what ≡ false
-  pub stays : is_last what ≡ false
-  pub grows : (s : State) (client : ℕ) → length s.world.threads ≤ length (step s (record { client = client; act = what })).state.world.threads
-  pub runless : (s : State) (client : ℕ) → run_of (step s (record { client = client; act = what })).reply.body ≡ None
+-- an act that a slash line may stand for
+abbrev pub IsSlash : Act → Type 0
+IsSlash (act.Stop run) = Unit {0}
+IsSlash (act.Drop target) = IsTarget target
+IsSlash (act.Ask question) = IsAnswered question
+IsSlash act.Reset = Unit {0}
+IsSlash _ = ⊥
 
 -- a command that a client is served: it is no exit
 abbrev pub IsServable : Command → Type 0
@@ -187,21 +157,40 @@ status_of halt.NoMemory = memory_short
 status_of halt.Limit = limit_met
 status_of halt.SinkFailed = write_failed
 
+-- the client is written no more
+abbrev pub is_unheard : ℕ → Bool
+is_unheard status = status == write_failed || status == memory_short
+
+-- what is said to the client's leave
+abbrev pub farewell : List Entry → ℕ → List ℕ
+farewell history client = shown (record { client = client; act = act.Leave }) (step (state_of history) (record { client = client; act = act.Leave })).reply
+
+-- The client has left, and what is said to that was written, or a part of it, which may change its status.
+pub data TakesLeave (status after : ℕ) (text : List ℕ) (held_before held_after : Option (List ℕ)) (writes_before writes_after : ℕ) : Type 0 where
+  unheard : is_unheard status ≡ true → after ≡ status → held_after ≡ held_before → writes_after ≡ writes_before →
+      TakesLeave status after text held_before held_after writes_before writes_after
+  heard : is_unheard status ≡ false → after ≡ status → held_after ≡ append_known held_before text → writes_after ≡ writes_before →
+      TakesLeave status after text held_before held_after writes_before writes_after
+  short : is_unheard status ≡ false → after ≡ memory_short → WritesPart held_before held_after text → writes_after ≡ writes_before →
+      TakesLeave status after text held_before held_after writes_before writes_after
+  failed : is_unheard status ≡ false → after ≡ write_failed → WritesPart held_before held_after text → Rose writes_before writes_after →
+      TakesLeave status after text held_before held_after writes_before writes_after
+
 -- How the serving of a client ended, with the counts of faults of its streams: its input has ended or it asked for an
 -- end, a read failed, it has read all that it may, or it was served no further.
-abbrev pub Ends : ℕ → ℕ → ℕ → List Entry → List Entry → Option (List ℕ) → Option (List ℕ) → List ℕ → Bool → ℕ → ℕ → ℕ → ℕ → Type 0
+abbrev pub Ends : ℕ → ℕ → ℕ → Session → Session → Option (List ℕ) → Option (List ℕ) → List ℕ → Bool → ℕ → ℕ → ℕ → ℕ → Type 0
 Ends budget client status before after held_before held_after read ended reads_before reads_after writes_before writes_after =
     ((status ≡ all_served) × (exits read ended ≡ true) × (length read < most_input) × (reads_after ≡ reads_before) × (writes_after ≡ writes_before)
-    × Serves budget client before after held_before held_after (before_exit read ended))
+    × Serves budget client Between Between before after held_before held_after (before_exit read ended))
     ⊎ ((status ≡ read_failed) × (exits read ended ≡ false) × (length read < most_input) × Rose reads_before reads_after × (writes_after ≡ writes_before)
-    × Serves budget client before after held_before held_after (before_exit read ended))
+    × Serves budget client Between Between before after held_before held_after (before_exit read ended))
     ⊎ ((status ≡ limit_met) × (ended ≡ false) × (length read ≡ most_input) × (reads_after ≡ reads_before) × (writes_after ≡ writes_before)
-    × Serves budget client before after held_before held_after (before_exit read ended))
+    × Serves budget client Between Between before after held_before held_after (before_exit read ended))
     ⊎ ((why : Halt) × (status ≡ status_of why) × (reads_after ≡ reads_before) × HasCause why writes_before writes_after
-    × ServesPart why budget client before after held_before held_after (before_exit read ended))
+    × ServesPart why budget client Between before after held_before held_after (before_exit read ended))
 
 -- What a client had read, and what of it was served.
-pub record IsServedBy (budget client status : ℕ) (before after : List Entry) (left_before left_after held_before held_after : Option (List ℕ)) (reads_before reads_after writes_before writes_after : ℕ) : Type 0 where
+pub record IsServedBy (budget client status : ℕ) (before after : Session) (left_before left_after held_before held_after : Option (List ℕ)) (reads_before reads_after writes_before writes_after : ℕ) : Type 0 where
   pub read : List ℕ
   pub ended : Bool
   pub reads : left_before ≡ prepend_known read left_after

@@ -2,11 +2,11 @@ ghost use Rattle.std.specs.Prelude.{◌≡◌, ◌<◌, false, length, slice_get
 ghost use Rattle.std.specs.Io.KnownBytes.{append_known};
 ghost use Rattle.jsh_render.specs.Texts.{shown};
 ghost use Rattle.jsh_core.specs.Acts.{is_last};
-ghost use Rattle.jsh_core.specs.Questions.{question_bytes};
+ghost use Rattle.jsh_core.specs.Questions.{question_text};
 ghost use Rattle.jsh_core.specs.Snippets.{run_of};
-ghost use Rattle.jsh_core.specs.History.{act_bytes, MayDo};
+ghost use Rattle.jsh_core.specs.History.{act_bytes, target_text, MayDo};
 ghost use Rattle.jsh_shell.specs.declared.halts.Halt.TheVariants as halt;
-ghost use Rattle.jsh_shell.specs.Progress.{command_act, is_limit};
+ghost use Rattle.jsh_shell.specs.Progress.{command_act, is_limit, is_source, run_behind};
 ghost use Rattle.jsh_shell.specs.Transcript.{is_turn};
 ghost use Rattle.jsh_shell.specs.Serving.{Counts, Fails, IsOpen, Shows, WritesPart};
 
@@ -15,7 +15,7 @@ use jsh_core::Core;
 use jsh_cut::Command;
 use jsh_io::{Sink, write_whole};
 use jsh_render::show;
-use jsh_snippet::{Act, Entry, Question, Refusal, Reply, ReplyBody};
+use jsh_snippet::{Act, Entry, Question, Refusal, Reply, ReplyBody, Target};
 use jsh_steps::Steps;
 use jsh_text::NoMemory;
 use std::alloc::Global;
@@ -32,13 +32,31 @@ pub fn act_of(command: Command) -> Act
     }
 }
 
+/// Whether a command is a source.
+pub fn is_source(command: &Command) -> bool
+    ensures { result ≡ is_source command.now }
+{
+    matches!(command, Command::Eval(_))
+}
+
 /// The bytes of text that a question hands in.
 fn question_len(question: &Question) -> usize
-    ensures { result ≡ question_bytes question.now }
+    ensures { result ≡ length (question_text question.now) }
 {
     match question {
+        Question::Complete(text) => text.as_str().len(),
         Question::Invalid(line) => line.as_str().len(),
         _ => 0,
+    }
+}
+
+/// The bytes of a name by which a snippet is taken back.
+fn target_len(target: &Target) -> usize
+    ensures { result ≡ length (target_text target.now) }
+{
+    match target {
+        Target::Id(_) => 0,
+        Target::Named(name) => name.as_str().len(),
     }
 }
 
@@ -48,20 +66,21 @@ pub fn text_len(what: &Act) -> usize
 {
     match what {
         Act::Submit { source } => source.as_str().len(),
+        Act::Drop { target } => target_len(target),
         Act::Ask { question } => question_len(question),
         _ => 0,
     }
 }
 
 /// Whether an act was refused at a limit.
-pub fn is_limit(body: &ReplyBody) -> bool
+fn is_limit(body: &ReplyBody) -> bool
     ensures { result ≡ is_limit body.now }
 {
     matches!(body, ReplyBody::Refused(Refusal::Limit { .. }))
 }
 
 /// The run that a submitted snippet has.
-pub fn run_of(body: &ReplyBody) -> Option<u32>
+fn run_of(body: &ReplyBody) -> Option<u32>
     ensures { result ≡ run_of body.now }
 {
     match body {
@@ -70,8 +89,15 @@ pub fn run_of(body: &ReplyBody) -> Option<u32>
     }
 }
 
+/// The run that is to be evaluated behind a source or another command.
+pub fn run_behind(source: bool, body: &ReplyBody) -> Option<u32>
+    ensures { result ≡ run_behind source body.now }
+{
+    if source { run_of(body) } else { None }
+}
+
 /// The entry at this place.
-fn entry_at(core: &Core, place: u64) -> &Entry
+pub fn entry_at(core: &Core, place: u64) -> &Entry
     requires { place < length core.now }
     ensures { slice_get core.now place ≡ Some result.now }
 {
@@ -82,7 +108,7 @@ fn entry_at(core: &Core, place: u64) -> &Entry
 }
 
 /// Writes what is said to an entry.
-fn write_shown<O: Sink>(
+pub fn write_shown<O: Sink>(
     alloc: Global,
     entry: &Entry,
     reply: &Reply,
@@ -104,7 +130,8 @@ fn write_shown<O: Sink>(
     }
 }
 
-/// Does an act other than a turn, behind which the client stays, and writes what is said to it.
+/// Does an act other than a turn, behind which the client stays, and writes what is said to it. An act
+/// that is refused at a limit has its entry, and is answered as a halt.
 pub fn perform<O: Sink, L: Ledger>(
     alloc: Global,
     core: &mut Core,
@@ -117,6 +144,7 @@ pub fn perform<O: Sink, L: Ledger>(
     requires quiet { is_turn entry.act ≡ false }
     requires stays { is_last entry.act ≡ false }
     ensures ok { IfOk result (λ reply. Shows core.old core.new entry reply (O.held sink.old) (O.held sink.new)) }
+    ensures free { IfOk result (λ reply. is_limit reply.body ≡ false) }
     ensures err { IfErr result (λ why. Fails why core.old core.new entry (O.held sink.old) (O.held sink.new)) }
     ensures open { IsOpen entry.client core.new }
     ensures counts { Counts result (O.faults sink.old) (O.faults sink.new) }
@@ -128,7 +156,12 @@ pub fn perform<O: Sink, L: Ledger>(
         Err(_) => return Err(Halt::NoMemory),
     };
     match write_shown(alloc, entry_at(core, place), &reply, sink) {
-        Ok(()) => Ok(reply),
+        Ok(()) => {
+            if is_limit(&reply.body) {
+                return Err(Halt::Limit);
+            }
+            Ok(reply)
+        }
         Err(why) => Err(why),
     }
 }

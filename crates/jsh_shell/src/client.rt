@@ -2,18 +2,20 @@ ghost use Rattle.std.specs.Prelude.{◌≡◌, ℕ, ◌^◌, ◌++◌, ◌∷◌
 ghost use Rattle.std.specs.List.{All};
 ghost use Rattle.jsh_snippet.specs.declared.acts.Act.TheVariants as act;
 ghost use Rattle.jsh_io.specs.Inputs.{IsEmptyWhereTold};
-ghost use Rattle.jsh_core.specs.History.{Allows, IsLegal};
-ghost use Rattle.jsh_shell.specs.Budget.{default_budget};
+ghost use Rattle.jsh_core.specs.Step.{step};
+ghost use Rattle.jsh_core.specs.History.{Allows, IsLegal, state_of};
 ghost use Rattle.jsh_shell.specs.Journal.{entry_of, IsFramed, IsServed};
-ghost use Rattle.jsh_shell.specs.Serving.{IsOpen};
+ghost use Rattle.jsh_shell.specs.Serving.{IsOpen, TakesLeave, farewell, is_unheard};
 ghost use Rattle.jsh_shell.specs.Statuses.{memory_short};
 
+use crate::acts::{entry_at, write_shown};
 use crate::reports::{ClientReport, Report};
 use crate::serving::{PIECE, serve_pieces};
-use crate::statuses::MEMORY_SHORT;
+use crate::session::Session;
+use crate::statuses::{MEMORY_SHORT, WRITE_FAILED};
 use jsh_core::Core;
 use jsh_io::{Sink, Source};
-use jsh_snippet::{Act, Entry};
+use jsh_snippet::{Act, Entry, Reply};
 use jsh_steps::Steps;
 use jsh_text::NoMemory;
 use std::alloc::Global;
@@ -34,19 +36,55 @@ fn close<L: Ledger>(alloc: Global, core: &mut Core, steps: &mut Steps<L>)
     }
 }
 
-/// A client leaves.
-fn leave<L: Ledger>(alloc: Global, core: &mut Core, client: u32, steps: &mut Steps<L>)
+/// A client goes.
+fn dismiss<L: Ledger>(alloc: Global, core: &mut Core, client: u32, steps: &mut Steps<L>) -> Reply
     requires { IsOpen client core.old }
-    ensures { core.new ≡ core.old ++ entry_of client act.Leave ∷ [] }
+    ensures reply { result ≡ (step (state_of core.old) (entry_of client act.Leave)).reply }
+    ensures grows { core.new ≡ core.old ++ entry_of client act.Leave ∷ [] }
 {
     let entry = Entry {
         client,
         act: Act::Leave,
     };
     match core.apply(alloc, entry, steps) {
-        Ok(_reply) => (),
+        Ok(reply) => reply,
         Err(_refused) => unreachable!(),
     }
+}
+
+/// Whether a client with this status is written no more.
+fn is_unheard(status: u8) -> bool
+    ensures { result ≡ is_unheard status }
+{
+    status == WRITE_FAILED || status == MEMORY_SHORT
+}
+
+/// A client leaves, and is written what is said to that, unless a write has failed or memory was short
+/// before. The answer is its status then.
+#[tactic(none)]
+fn leave<O: Sink, L: Ledger>(
+    alloc: Global,
+    core: &mut Core,
+    client: u32,
+    sink: &mut O,
+    status: u8,
+    steps: &mut Steps<L>,
+) -> u8
+    requires { IsOpen client core.old }
+    ensures grows { core.new ≡ core.old ++ entry_of client act.Leave ∷ [] }
+    ensures written { TakesLeave status result (farewell core.old client) (O.held sink.old) (O.held sink.new) (O.faults sink.old) (O.faults sink.new) }
+    ensures stream { O.stream sink.new ≡ O.stream sink.old }
+{
+    let place = core.len();
+    let reply = dismiss(alloc, core, client, steps);
+    if is_unheard(status) {
+        return status;
+    }
+    match write_shown(alloc, entry_at(core, place), &reply, sink) {
+        Ok(()) => (),
+        Err(why) => return why.status(),
+    }
+    status
 }
 
 /// The root enters the first client.
@@ -94,6 +132,7 @@ pub fn report_without<I, O>(
 #[tactic(none)]
 pub fn serve_client<I: Source + Drop, O: Sink + Drop, L: Ledger>(
     alloc: Global,
+    budget: u64,
     source: I,
     sink: O,
     buffer: &mut [u8],
@@ -106,10 +145,11 @@ pub fn serve_client<I: Source + Drop, O: Sink + Drop, L: Ledger>(
     requires empty { IsEmptyWhereTold (O.held sink) }
     ensures legal { IsLegal result.journal.items }
     ensures served { All (λ r. (r.number ≡ 1) × (r.status ≡ result.status)
-        × IsServed default_budget r.number r.status result.journal.items (I.left source) (I.left r.source) (O.held r.sink)
+        × IsServed budget r.number r.status result.journal.items (I.left source) (I.left r.source) (O.held r.sink)
         (I.faults source) (I.faults r.source) (O.faults sink) (O.faults r.sink)) result.clients.items }
     ensures stream { All (λ r. O.stream r.sink ≡ O.stream sink) result.clients.items }
-    ensures alone { (result.clients.items ≡ []) → (result.status ≡ memory_short) }
+    ensures alone { (result.clients.items ≡ []) → (result.status ≡ memory_short)
+        × ((result.journal.items ≡ []) ⊎ (result.journal.items ≡ entry_of 0 act.Close ∷ [])) }
     ensures empty { (result.journal.items ≡ []) → (result.clients.items ≡ []) }
     ensures one { length result.clients.items ≤ 1 }
     ensures no_file { IsNone result.journal_sink × (result.journal_status ≡ 0) }
@@ -128,8 +168,23 @@ pub fn serve_client<I: Source + Drop, O: Sink + Drop, L: Ledger>(
     }
     let mut source = source;
     let mut sink = sink;
-    let status = serve_pieces(alloc, &mut core, 1, &mut source, &mut sink, buffer, steps);
-    leave(alloc, &mut core, 1, steps);
+    let mut session = Session {
+        core,
+        last_turn: 0,
+        cursor: 0,
+    };
+    let served = serve_pieces(
+        alloc,
+        &mut session,
+        1,
+        budget,
+        &mut source,
+        &mut sink,
+        buffer,
+        steps,
+    );
+    let mut core = session.core;
+    let status = leave(alloc, &mut core, 1, &mut sink, served, steps);
     close(alloc, &mut core, steps);
     let mut clients = clients;
     push_report(

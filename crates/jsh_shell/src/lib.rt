@@ -4,13 +4,16 @@
 
 mod acts;
 mod client;
+mod driving;
 mod evaluation;
 mod halts;
 mod laws;
 mod lines;
 mod reports;
 mod room;
+mod served;
 mod serving;
+mod session;
 mod shell;
 mod statuses;
 

@@ -4,14 +4,14 @@ ghost use Rattle.jsh_lines.specs.Lines.{as_text};
 ghost use Rattle.jsh_cut.specs.Commands as cutting;
 ghost use Rattle.jsh_cut.specs.Cuttings.{coming};
 ghost use Rattle.jsh_shell.specs.declared.halts.Halt.TheVariants as halt;
-ghost use Rattle.jsh_shell.specs.Budget.{default_budget};
+ghost use Rattle.jsh_shell.specs.Progress.Phase.{Between};
 ghost use Rattle.jsh_shell.specs.Cutting.{ServesCut, ending};
 ghost use Rattle.jsh_shell.specs.Serving.{Counts, IsOpen, IsServable, Serves, ServesPart};
 ghost use Rattle.jsh_shell.specs.Upcoming.{comes};
 
 use crate::evaluation::serve_command;
 use crate::halts::Halt;
-use jsh_core::Core;
+use crate::session::Session;
 use jsh_cut::{Command, Cutting, Held, Next, cut_end, cut_line};
 use jsh_io::Sink;
 use jsh_lines::text_of;
@@ -58,17 +58,18 @@ fn next_of(alloc: Global, cutting: Cutting) -> Result<Upcoming, Halt>
 #[tactic(none)]
 fn serve_cutting<O: Sink, L: Ledger>(
     alloc: Global,
-    core: &mut Core,
+    session: &mut Session,
     client: u32,
+    budget: u64,
     sink: &mut O,
     cutting: Cutting,
     steps: &mut Steps<L>,
 ) -> Result<Behind, Halt>
-    requires open { IsOpen client core.old }
+    requires open { IsOpen client session.old.core }
     requires servable { All IsServable (coming cutting).commands }
-    ensures ok { IfOk result (λ behind. ServesCut default_budget client core.old core.new (O.held sink.old) (O.held sink.new) (coming cutting) behind) }
-    ensures err { IfErr result (λ why. ServesPart why default_budget client core.old core.new (O.held sink.old) (O.held sink.new) (coming cutting).commands) }
-    ensures open { IsOpen client core.new }
+    ensures ok { IfOk result (λ behind. ServesCut budget client session.old session.new (O.held sink.old) (O.held sink.new) (coming cutting) behind) }
+    ensures err { IfErr result (λ why. ServesPart why budget client Between session.old session.new (O.held sink.old) (O.held sink.new) (coming cutting).commands) }
+    ensures open { IsOpen client session.new.core }
     ensures counts { Counts result (O.faults sink.old) (O.faults sink.new) }
     ensures stream { O.stream sink.new ≡ O.stream sink.old }
 {
@@ -81,7 +82,7 @@ fn serve_cutting<O: Sink, L: Ledger>(
         match next {
             Upcoming::Last(behind) => return Ok(behind),
             Upcoming::First(command, rest) => {
-                match serve_command(alloc, core, client, sink, command, steps) {
+                match serve_command(alloc, session, client, budget, sink, command, steps) {
                     Ok(()) => (),
                     Err(why) => return Err(why),
                 }
@@ -95,19 +96,20 @@ fn serve_cutting<O: Sink, L: Ledger>(
 #[tactic(none)]
 fn serve_line<O: Sink, L: Ledger>(
     alloc: Global,
-    core: &mut Core,
+    session: &mut Session,
     client: u32,
+    budget: u64,
     sink: &mut O,
     held: Held,
     line: &[u8],
     steps: &mut Steps<L>,
 ) -> Result<Behind, Halt>
-    requires open { IsOpen client core.old }
+    requires open { IsOpen client session.old.core }
     requires few { length (cutting.held_text held) + 3 * length line.now + 1 < 2 ^ 32 }
-    ensures ok { IfOk result (λ behind. ServesCut default_budget client core.old core.new (O.held sink.old) (O.held sink.new) (cutting.cut_line held (as_text line.now)) behind) }
+    ensures ok { IfOk result (λ behind. ServesCut budget client session.old session.new (O.held sink.old) (O.held sink.new) (cutting.cut_line held (as_text line.now)) behind) }
     ensures few { IfOk result (λ behind. length (cutting.held_text behind.held) ≤ length (cutting.held_text held) + 3 * length line.now + 1) }
-    ensures err { IfErr result (λ why. ServesPart why default_budget client core.old core.new (O.held sink.old) (O.held sink.new) (cutting.cut_line held (as_text line.now)).commands) }
-    ensures open { IsOpen client core.new }
+    ensures err { IfErr result (λ why. ServesPart why budget client Between session.old session.new (O.held sink.old) (O.held sink.new) (cutting.cut_line held (as_text line.now)).commands) }
+    ensures open { IsOpen client session.new.core }
     ensures counts { Counts result (O.faults sink.old) (O.faults sink.new) }
     ensures stream { O.stream sink.new ≡ O.stream sink.old }
 {
@@ -119,28 +121,29 @@ fn serve_line<O: Sink, L: Ledger>(
         Ok(cutting) => cutting,
         Err(_refused) => return Err(Halt::NoMemory),
     };
-    serve_cutting(alloc, core, client, sink, cutting, steps)
+    serve_cutting(alloc, session, client, budget, sink, cutting, steps)
 }
 
 /// Serves the line that was begun and ends with these bytes.
 #[tactic(none)]
 pub fn serve_begun<O: Sink, L: Ledger>(
     alloc: Global,
-    core: &mut Core,
+    session: &mut Session,
     client: u32,
+    budget: u64,
     sink: &mut O,
     held: Held,
     begun: &mut Vec<u8>,
     end: &[u8],
     steps: &mut Steps<L>,
 ) -> Result<Behind, Halt>
-    requires open { IsOpen client core.old }
+    requires open { IsOpen client session.old.core }
     requires few { length (cutting.held_text held) + 3 * (length begun.old.items + length end.now) + 1 < 2 ^ 32 }
-    ensures ok { IfOk result (λ behind. ServesCut default_budget client core.old core.new (O.held sink.old) (O.held sink.new) (cutting.cut_line held (as_text (begun.old.items ++ end.now))) behind) }
+    ensures ok { IfOk result (λ behind. ServesCut budget client session.old session.new (O.held sink.old) (O.held sink.new) (cutting.cut_line held (as_text (begun.old.items ++ end.now))) behind) }
     ensures begun { OnOk result (begun.new.items ≡ []) }
     ensures few { IfOk result (λ behind. length (cutting.held_text behind.held) ≤ length (cutting.held_text held) + 3 * (length begun.old.items + length end.now) + 1) }
-    ensures err { IfErr result (λ why. ServesPart why default_budget client core.old core.new (O.held sink.old) (O.held sink.new) (cutting.cut_line held (as_text (begun.old.items ++ end.now))).commands) }
-    ensures open { IsOpen client core.new }
+    ensures err { IfErr result (λ why. ServesPart why budget client Between session.old session.new (O.held sink.old) (O.held sink.new) (cutting.cut_line held (as_text (begun.old.items ++ end.now))).commands) }
+    ensures open { IsOpen client session.new.core }
     ensures counts { Counts result (O.faults sink.old) (O.faults sink.new) }
     ensures stream { O.stream sink.new ≡ O.stream sink.old }
 {
@@ -148,7 +151,16 @@ pub fn serve_begun<O: Sink, L: Ledger>(
         Ok(()) => (),
         Err(_refused) => return Err(Halt::NoMemory),
     }
-    let behind = match serve_line(alloc, core, client, sink, held, begun.as_slice(), steps) {
+    let behind = match serve_line(
+        alloc,
+        session,
+        client,
+        budget,
+        sink,
+        held,
+        begun.as_slice(),
+        steps,
+    ) {
         Ok(behind) => behind,
         Err(why) => return Err(why),
     };
@@ -160,20 +172,21 @@ pub fn serve_begun<O: Sink, L: Ledger>(
 #[tactic(none)]
 fn serve_held<O: Sink, L: Ledger>(
     alloc: Global,
-    core: &mut Core,
+    session: &mut Session,
     client: u32,
+    budget: u64,
     sink: &mut O,
     held: Held,
     steps: &mut Steps<L>,
 ) -> Result<(), Halt>
-    requires { IsOpen client core.old }
-    ensures ok { OnOk result (Serves default_budget client core.old core.new (O.held sink.old) (O.held sink.new) (cutting.cut_end held)) }
-    ensures err { IfErr result (λ why. ServesPart why default_budget client core.old core.new (O.held sink.old) (O.held sink.new) (cutting.cut_end held)) }
-    ensures open { IsOpen client core.new }
+    requires { IsOpen client session.old.core }
+    ensures ok { OnOk result (Serves budget client Between Between session.old session.new (O.held sink.old) (O.held sink.new) (cutting.cut_end held)) }
+    ensures err { IfErr result (λ why. ServesPart why budget client Between session.old session.new (O.held sink.old) (O.held sink.new) (cutting.cut_end held)) }
+    ensures open { IsOpen client session.new.core }
     ensures counts { Counts result (O.faults sink.old) (O.faults sink.new) }
     ensures stream { O.stream sink.new ≡ O.stream sink.old }
 {
-    match serve_cutting(alloc, core, client, sink, cut_end(held), steps) {
+    match serve_cutting(alloc, session, client, budget, sink, cut_end(held), steps) {
         Ok(_behind) => Ok(()),
         Err(why) => Err(why),
     }
@@ -183,32 +196,33 @@ fn serve_held<O: Sink, L: Ledger>(
 #[tactic(none)]
 pub fn serve_end<O: Sink, L: Ledger>(
     alloc: Global,
-    core: &mut Core,
+    session: &mut Session,
     client: u32,
+    budget: u64,
     sink: &mut O,
     held: Held,
     rest: &[u8],
     steps: &mut Steps<L>,
 ) -> Result<(), Halt>
-    requires open { IsOpen client core.old }
+    requires open { IsOpen client session.old.core }
     requires few { length (cutting.held_text held) + 3 * length rest.now + 1 < 2 ^ 32 }
-    ensures ok { OnOk result (Serves default_budget client core.old core.new (O.held sink.old) (O.held sink.new) (ending held rest.now)) }
-    ensures err { IfErr result (λ why. ServesPart why default_budget client core.old core.new (O.held sink.old) (O.held sink.new) (ending held rest.now)) }
-    ensures open { IsOpen client core.new }
+    ensures ok { OnOk result (Serves budget client Between Between session.old session.new (O.held sink.old) (O.held sink.new) (ending held rest.now)) }
+    ensures err { IfErr result (λ why. ServesPart why budget client Between session.old session.new (O.held sink.old) (O.held sink.new) (ending held rest.now)) }
+    ensures open { IsOpen client session.new.core }
     ensures counts { Counts result (O.faults sink.old) (O.faults sink.new) }
     ensures stream { O.stream sink.new ≡ O.stream sink.old }
 {
     if rest.is_empty() {
-        return serve_held(alloc, core, client, sink, held, steps);
+        return serve_held(alloc, session, client, budget, sink, held, steps);
     }
-    let behind = match serve_line(alloc, core, client, sink, held, rest, steps) {
+    let behind = match serve_line(alloc, session, client, budget, sink, held, rest, steps) {
         Ok(behind) => behind,
         Err(why) => return Err(why),
     };
     if behind.exits {
         return Ok(());
     }
-    match serve_held(alloc, core, client, sink, behind.held, steps) {
+    match serve_held(alloc, session, client, budget, sink, behind.held, steps) {
         Ok(()) => (),
         Err(why) => return Err(why),
     }

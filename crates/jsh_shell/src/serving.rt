@@ -4,13 +4,13 @@ ghost use Rattle.jsh_lines.specs.Lines.{cut};
 ghost use Rattle.jsh_cut.specs.Commands.{held_text};
 ghost use Rattle.jsh_io.specs.Count.{Rose};
 ghost use Rattle.jsh_shell.specs.Cutting.{ServesCut, piece_gives};
-ghost use Rattle.jsh_shell.specs.Budget.{default_budget};
+ghost use Rattle.jsh_shell.specs.Progress.Phase.{Between};
 ghost use Rattle.jsh_shell.specs.Serving.{Counts, IsOpen, IsServedBy, ServesPart};
 
 use crate::halts::Halt;
 use crate::lines::{Behind, serve_begun, serve_end};
+use crate::session::Session;
 use crate::statuses::{ALL_SERVED, LIMIT_MET, READ_FAILED};
-use jsh_core::Core;
 use jsh_cut::Held;
 use jsh_io::{Failed, Sink, Source};
 use jsh_lines::line_end;
@@ -28,22 +28,23 @@ pub const PIECE: usize = 8_192;
 #[tactic(none)]
 fn serve_piece<O: Sink, L: Ledger>(
     alloc: Global,
-    core: &mut Core,
+    session: &mut Session,
     client: u32,
+    budget: u64,
     sink: &mut O,
     held: Held,
     begun: &mut Vec<u8>,
     piece: &[u8],
     steps: &mut Steps<L>,
 ) -> Result<Behind, Halt>
-    requires open { IsOpen client core.old }
+    requires open { IsOpen client session.old.core }
     requires uncut { (cut begun.old.items).rest ≡ begun.old.items }
     requires few { length (held_text held) + 3 * (length begun.old.items + length piece.now) < 2 ^ 32 }
-    ensures ok { IfOk result (λ behind. ServesCut default_budget client core.old core.new (O.held sink.old) (O.held sink.new) (piece_gives held (begun.old.items ++ piece.now)) behind) }
+    ensures ok { IfOk result (λ behind. ServesCut budget client session.old session.new (O.held sink.old) (O.held sink.new) (piece_gives held (begun.old.items ++ piece.now)) behind) }
     ensures begun { IfOk result (λ behind. behind.exits ≡ false → begun.new.items ≡ (cut (begun.old.items ++ piece.now)).rest) }
     ensures few { IfOk result (λ behind. behind.exits ≡ false → length (held_text behind.held) + 3 * length begun.new.items ≤ length (held_text held) + 3 * (length begun.old.items + length piece.now)) }
-    ensures err { IfErr result (λ why. ServesPart why default_budget client core.old core.new (O.held sink.old) (O.held sink.new) (piece_gives held (begun.old.items ++ piece.now)).commands) }
-    ensures open { IsOpen client core.new }
+    ensures err { IfErr result (λ why. ServesPart why budget client Between session.old session.new (O.held sink.old) (O.held sink.new) (piece_gives held (begun.old.items ++ piece.now)).commands) }
+    ensures open { IsOpen client session.new.core }
     ensures counts { Counts result (O.faults sink.old) (O.faults sink.new) }
     ensures stream { O.stream sink.new ≡ O.stream sink.old }
 {
@@ -51,7 +52,9 @@ fn serve_piece<O: Sink, L: Ledger>(
     let mut rest = piece;
     'lines: while let Some(at) = line_end(rest) {
         let (line, next) = rest.split_at(at);
-        let behind = match serve_begun(alloc, core, client, sink, waiting, begun, line, steps) {
+        let behind = match serve_begun(
+            alloc, session, client, budget, sink, waiting, begun, line, steps,
+        ) {
             Ok(behind) => behind,
             Err(why) => return Err(why),
         };
@@ -90,18 +93,19 @@ fn read_some<I: Source>(source: &mut I, buffer: &mut [u8], room: usize) -> Resul
 #[tactic(none)]
 pub fn serve_pieces<I: Source, O: Sink, L: Ledger>(
     alloc: Global,
-    core: &mut Core,
+    session: &mut Session,
     client: u32,
+    budget: u64,
     source: &mut I,
     sink: &mut O,
     buffer: &mut [u8],
     steps: &mut Steps<L>,
 ) -> u8
-    requires open { IsOpen client core.old }
+    requires open { IsOpen client session.old.core }
     requires piece { length buffer.old ≡ PIECE }
-    ensures served { IsServedBy default_budget client result core.old core.new (I.left source.old) (I.left source.new) (O.held sink.old) (O.held sink.new)
+    ensures served { IsServedBy budget client result session.old session.new (I.left source.old) (I.left source.new) (O.held sink.old) (O.held sink.new)
         (I.faults source.old) (I.faults source.new) (O.faults sink.old) (O.faults sink.new) }
-    ensures open { IsOpen client core.new }
+    ensures open { IsOpen client session.new.core }
     ensures stream { O.stream sink.new ≡ O.stream sink.old }
 {
     let mut held = Held::Nothing;
@@ -114,15 +118,25 @@ pub fn serve_pieces<I: Source, O: Sink, L: Ledger>(
             Err(_failed) => return READ_FAILED,
         };
         if count == 0 {
-            match serve_end(alloc, core, client, sink, held, begun.as_slice(), steps) {
+            match serve_end(
+                alloc,
+                session,
+                client,
+                budget,
+                sink,
+                held,
+                begun.as_slice(),
+                steps,
+            ) {
                 Ok(()) => return ALL_SERVED,
                 Err(why) => return why.status(),
             }
         }
         let behind = match serve_piece(
             alloc,
-            core,
+            session,
             client,
+            budget,
             sink,
             held,
             &mut begun,

@@ -1,21 +1,25 @@
-ghost use Rattle.std.specs.Prelude.{◌≡◌, ◌≢◌, [], ℕ, ◌<◌, ◌≤◌, ◌⊎◌, List, Option, IsNone, length, vec_len, vec_capacity};
+ghost use Rattle.std.specs.Prelude.{◌≡◌, ◌≢◌, [], ℕ, ◌<◌, ◌≤◌, ◌⊎◌, List, Option, Some, None, IsNone, IsSome, ◌∷◌, map, length, vec_len, vec_capacity};
 ghost use Rattle.std.specs.List.{All};
 ghost use Rattle.std.specs.Io.KnownBytes.{append_known};
+ghost use Rattle.std.specs.String.{string_bytes};
 ghost use Rattle.jsh_io.specs.Count.{Rose, TakesPart};
 ghost use Rattle.jsh_io.specs.Inputs.{IsEmptyWhereTold};
 ghost use Rattle.jsh_io.specs.Streams.{IsStreamWhereTold};
 ghost use Rattle.jsh_io.specs.Streams.StreamName.{StandardStream};
+ghost use Rattle.jsh_snippet.specs.declared.acts.Act.TheVariants as act;
 ghost use Rattle.jsh_core.specs.History.{IsLegal};
-ghost use Rattle.jsh_shell.specs.Budget.{default_budget};
-ghost use Rattle.jsh_shell.specs.Journal.{IsFramed, IsServed, IsUnread, IsUsage};
+ghost use Rattle.jsh_shell.specs.Journal.{entry_of, IsFramed, IsServed, IsUnread, IsUsage};
+ghost use Rattle.jsh_shell.specs.Served.{budget_of};
 ghost use Rattle.jsh_shell.specs.Statuses.{all_served, limit_met, memory_short, read_failed, words_refused};
 
 use crate::client::{push_report, report_without, serve_client};
 use crate::reports::{ClientReport, Report};
+use crate::served::budget_of;
 use crate::serving::PIECE;
 use crate::statuses::{MEMORY_SHORT, READ_FAILED, WORDS_REFUSED};
 use jsh_io::{Desk, Gate, Sink, Source, write_whole};
 use jsh_steps::Steps;
+use jsh_text::NoMemory;
 use std::alloc::Global;
 use std::marker::Brand;
 use std::sync::Wait;
@@ -29,6 +33,7 @@ pub const USAGE: &str =
 /// Serves the one client with a counter of steps of its own.
 fn serve_counted<I: Source + Drop, O: Sink + Drop, L: Ledger>(
     alloc: Global,
+    budget: u64,
     source: I,
     sink: O,
     buffer: &mut [u8],
@@ -44,22 +49,24 @@ fn serve_counted<I: Source + Drop, O: Sink + Drop, L: Ledger>(
     requires some { 0 < L.parts }
     ensures legal { IsLegal result.journal.items }
     ensures served { All (λ r. (r.number ≡ 1) × (r.status ≡ result.status)
-        × IsServed default_budget r.number r.status result.journal.items (I.left source) (I.left r.source) (O.held r.sink)
+        × IsServed budget r.number r.status result.journal.items (I.left source) (I.left r.source) (O.held r.sink)
         (I.faults source) (I.faults r.source) (O.faults sink) (O.faults r.sink)) result.clients.items }
     ensures stream { All (λ r. O.stream r.sink ≡ O.stream sink) result.clients.items }
-    ensures alone { (result.clients.items ≡ []) → (result.status ≡ memory_short) }
+    ensures alone { (result.clients.items ≡ []) → (result.status ≡ memory_short)
+        × ((result.journal.items ≡ []) ⊎ (result.journal.items ≡ entry_of 0 act.Close ∷ [])) }
     ensures empty { (result.journal.items ≡ []) → (result.clients.items ≡ []) }
     ensures one { length result.clients.items ≤ 1 }
     ensures no_file { IsNone result.journal_sink × (result.journal_status ≡ 0) }
     ensures framed { (result.journal.items ≡ []) ⊎ IsFramed (length result.clients.items) result.journal.items }
 {
     let mut steps = Steps::<L>::open(blank);
-    serve_client(alloc, source, sink, buffer, clients, &mut steps)
+    serve_client(alloc, budget, source, sink, buffer, clients, &mut steps)
 }
 
 /// Serves the one client over the standard streams.
 fn serve_standard<I: Source + Drop, O: Sink + Drop>(
     alloc: Global,
+    budget: u64,
     source: I,
     sink: O,
     clients: Vec<ClientReport<I, O>>,
@@ -69,10 +76,11 @@ fn serve_standard<I: Source + Drop, O: Sink + Drop>(
     requires empty { IsEmptyWhereTold (O.held sink) }
     ensures legal { IsLegal result.journal.items }
     ensures served { All (λ r. (r.number ≡ 1) × (r.status ≡ result.status)
-        × IsServed default_budget r.number r.status result.journal.items (I.left source) (I.left r.source) (O.held r.sink)
+        × IsServed budget r.number r.status result.journal.items (I.left source) (I.left r.source) (O.held r.sink)
         (I.faults source) (I.faults r.source) (O.faults sink) (O.faults r.sink)) result.clients.items }
     ensures stream { All (λ r. O.stream r.sink ≡ O.stream sink) result.clients.items }
-    ensures alone { (result.clients.items ≡ []) → (result.status ≡ memory_short) }
+    ensures alone { (result.clients.items ≡ []) → (result.status ≡ memory_short)
+        × ((result.journal.items ≡ []) ⊎ (result.journal.items ≡ entry_of 0 act.Close ∷ [])) }
     ensures empty { (result.journal.items ≡ []) → (result.clients.items ≡ []) }
     ensures one { length result.clients.items ≤ 1 }
     ensures no_file { IsNone result.journal_sink × (result.journal_status ≡ 0) }
@@ -82,7 +90,15 @@ fn serve_standard<I: Source + Drop, O: Sink + Drop>(
         Ok(buffer) => buffer,
         Err(_refused) => return report_without(MEMORY_SHORT, Vec::new(alloc), clients),
     };
-    serve_counted::<I, O, Brand>(alloc, source, sink, &mut buffer, clients, Blank::new(1))
+    serve_counted::<I, O, Brand>(
+        alloc,
+        budget,
+        source,
+        sink,
+        &mut buffer,
+        clients,
+        Blank::new(1),
+    )
 }
 
 /// Writes how the program is called.
@@ -148,6 +164,7 @@ fn refuse_words<D: Desk>(
 #[tactic(none)]
 fn serve_desk<D: Desk>(
     alloc: Global,
+    budget: u64,
     desk: &mut D,
     clients: Vec<ClientReport<D::In, D::Out>>,
 ) -> Report<D::In, D::Out>
@@ -157,12 +174,12 @@ fn serve_desk<D: Desk>(
     ensures framed { (result.journal.items ≡ []) ⊎ IsFramed (length result.clients.items) result.journal.items }
     ensures served { All (λ r. (r.number ≡ 1) × (r.status ≡ result.status) × ((given : Option (List ℕ))
         × IsUnread (D.inputs desk.old) given
-        × IsServed default_budget r.number r.status result.journal.items given (D.In.left r.source) (D.Out.held r.sink)
+        × IsServed budget r.number r.status result.journal.items given (D.In.left r.source) (D.Out.held r.sink)
         0 (D.In.faults r.source) 0 (D.Out.faults r.sink))) result.clients.items }
     ensures standard { All (λ r. IsStreamWhereTold (D.Out.stream r.sink) StandardStream) result.clients.items }
     ensures alone { (result.clients.items ≡ []) →
         ((result.status ≡ read_failed) × (result.journal.items ≡ []) × Rose (D.input_faults desk.old) (D.input_faults desk.new))
-        ⊎ (result.status ≡ memory_short) }
+        ⊎ ((result.status ≡ memory_short) × ((result.journal.items ≡ []) ⊎ (result.journal.items ≡ entry_of 0 act.Close ∷ []))) }
     ensures empty { (result.journal.items ≡ []) → (result.clients.items ≡ []) }
     ensures healthy { (Rose (D.input_faults desk.old) (D.input_faults desk.new) → ⊥)
         → All (λ r. (Rose 0 (D.In.faults r.source) → ⊥) × (Rose 0 (D.Out.faults r.sink) → ⊥)) result.clients.items
@@ -175,11 +192,12 @@ fn serve_desk<D: Desk>(
         Ok(streams) => streams,
         Err(_failed) => return report_without(READ_FAILED, Vec::new(alloc), clients),
     };
-    serve_standard(alloc, source, sink, clients)
+    serve_standard(alloc, budget, source, sink, clients)
 }
 
 /// Serves clients over one engine, and reports what they came to and the one journal. So far there is
-/// one client, over the standard streams, and the words have to be empty.
+/// one client, over the standard streams, and of the options only `--budget` is served: the steps that
+/// an evaluation may take. Words that name pumps, files, the demo or a replay are refused.
 ///
 /// Statuses: 0 where the input was read to its end and served, 2 where the words are refused, 3 where a
 /// read or an opening for input failed, 4 where a write failed, 5 for want of memory, 6 at a limit.
@@ -196,41 +214,44 @@ pub fn run<R: Threads + Wait + Sync, D: Desk, G: Gate>(
     ensures framed { (result.journal.items ≡ []) ⊎ IsFramed (length result.clients.items) result.journal.items }
     ensures one { length result.clients.items ≤ 1 }
 
-    // Each client's entries follow its commands, it is written its transcript over the journal, and its
-    // status has its cause.
-    ensures served { words.now ≡ [] → All (λ r. (r.number ≡ 1) × (r.status ≡ result.status) × ((given : Option (List ℕ))
+    // Each client's entries follow its commands with the budget of the words, it is written its transcript
+    // over the journal, and its status has its cause.
+    ensures served { (budget : ℕ) → budget_of (map string_bytes words.now) ≡ Some budget →
+        All (λ r. (r.number ≡ 1) × (r.status ≡ result.status) × ((given : Option (List ℕ))
         × IsUnread (D.inputs desk.old) given
-        × IsServed default_budget r.number r.status result.journal.items given (D.In.left r.source) (D.Out.held r.sink)
+        × IsServed budget r.number r.status result.journal.items given (D.In.left r.source) (D.Out.held r.sink)
         0 (D.In.faults r.source) 0 (D.Out.faults r.sink))) result.clients.items }
 
     // Over a desk and streams that don't fail, the input is read to its end, or a limit or want of
     // memory comes.
-    ensures healthy { words.now ≡ [] → (Rose (D.input_faults desk.old) (D.input_faults desk.new) → ⊥)
+    ensures healthy { IsSome (budget_of (map string_bytes words.now)) → (Rose (D.input_faults desk.old) (D.input_faults desk.new) → ⊥)
         → All (λ r. (Rose 0 (D.In.faults r.source) → ⊥) × (Rose 0 (D.Out.faults r.sink) → ⊥)) result.clients.items
         → (result.status ≡ all_served) ⊎ (result.status ≡ limit_met) ⊎ (result.status ≡ memory_short) }
 
     // Each sink is the stream that it is to be.
     ensures standard { All (λ r. IsStreamWhereTold (D.Out.stream r.sink) StandardStream) result.clients.items }
 
-    // Without a client, the streams could not be opened, or memory was wanting.
+    // Without a client, the streams could not be opened, or memory was wanting before the client was
+    // entered, and the journal has at most the close.
     ensures alone { (result.clients.items ≡ []) →
         (Rose (D.input_faults desk.old) (D.input_faults desk.new) × (result.journal.items ≡ [])
-        × (words.now ≡ [] → result.status ≡ read_failed) × (words.now ≢ [] → result.status ≡ words_refused))
-        ⊎ (result.status ≡ memory_short) }
+        × (IsSome (budget_of (map string_bytes words.now)) → result.status ≡ read_failed)
+        × (budget_of (map string_bytes words.now) ≡ None → result.status ≡ words_refused))
+        ⊎ ((result.status ≡ memory_short) × ((result.journal.items ≡ []) ⊎ (result.journal.items ≡ entry_of 0 act.Close ∷ []))) }
 
     // The journal is empty where the words are refused or an opening failed, and else only for want of
     // memory before the engine was open.
-    ensures empty { (result.journal.items ≡ []) → (words.now ≢ []) ⊎ ((result.clients.items ≡ [])
+    ensures empty { (result.journal.items ≡ []) → (budget_of (map string_bytes words.now) ≡ None) ⊎ ((result.clients.items ≡ [])
         × ((result.status ≡ read_failed) ⊎ (result.status ≡ memory_short))) }
     ensures unopened { (result.clients.items ≡ []) → (result.status ≡ read_failed) → result.journal.items ≡ [] }
 
     // Refused words: the usage line is written, and nothing is read or journalled.
-    ensures refused { words.now ≢ [] → result.journal.items ≡ [] }
-    ensures refused_status { words.now ≢ [] → (result.status ≡ words_refused) ⊎ (result.status ≡ memory_short) }
-    ensures accepted_status { words.now ≡ [] → result.status ≢ words_refused }
-    ensures unread { words.now ≢ [] → All (λ r. IsUnread (D.inputs desk.old) (D.In.left r.source)
+    ensures refused { budget_of (map string_bytes words.now) ≡ None → result.journal.items ≡ [] }
+    ensures refused_status { budget_of (map string_bytes words.now) ≡ None → (result.status ≡ words_refused) ⊎ (result.status ≡ memory_short) }
+    ensures accepted_status { IsSome (budget_of (map string_bytes words.now)) → result.status ≢ words_refused }
+    ensures unread { budget_of (map string_bytes words.now) ≡ None → All (λ r. IsUnread (D.inputs desk.old) (D.In.left r.source)
         × (D.In.faults r.source ≡ 0)) result.clients.items }
-    ensures usage { words.now ≢ [] → All (λ r. (r.number ≡ 0) × (r.status ≡ words_refused) × (result.status ≡ words_refused)
+    ensures usage { budget_of (map string_bytes words.now) ≡ None → All (λ r. (r.number ≡ 0) × (r.status ≡ words_refused) × (result.status ≡ words_refused)
         × IsUsage (D.Out.held r.sink) USAGE.now (Rose 0 (D.Out.faults r.sink))) result.clients.items }
 
     // No file is opened for the journal so far.
@@ -240,10 +261,10 @@ pub fn run<R: Threads + Wait + Sync, D: Desk, G: Gate>(
         Ok(clients) => clients,
         Err(_refused) => return report_without(MEMORY_SHORT, Vec::new(alloc), Vec::new(alloc)),
     };
-    if words.is_empty() {
-        serve_desk(alloc, desk, clients)
-    } else {
-        refuse_words(alloc, desk, clients)
+    match budget_of(alloc, words) {
+        Ok(Some(budget)) => serve_desk(alloc, budget, desk, clients),
+        Ok(None) => refuse_words(alloc, desk, clients),
+        Err(NoMemory) => report_without(MEMORY_SHORT, Vec::new(alloc), clients),
     }
 }
 
@@ -251,5 +272,7 @@ pub fn run<R: Threads + Wait + Sync, D: Desk, G: Gate>(
 mod cutting_tests;
 #[cfg(test)]
 mod embedding_test;
+#[cfg(test)]
+mod session_tests;
 #[cfg(test)]
 mod tests;

@@ -6,11 +6,9 @@ ghost use Rattle.jsh_core.specs.Questions.{IsAnswered};
 
 use super::*;
 use crate::limits::{MOST_BYTES, MOST_ENTRIES, MOST_STEPS};
-use jsh_lex::is_identifier;
 use crate::log::act_bytes;
-use jsh_snippet::{
-    Act, Collected, Fate, Line, Outcome, Question, Refusal, ReplyBody, Target,
-};
+use jsh_lex::is_identifier;
+use jsh_snippet::{Act, Collected, Fate, Line, Outcome, Question, Refusal, ReplyBody, Target};
 use jsh_tree::{MOST_SOURCE, Name, SrcText};
 use std::marker::Brand;
 use std::sync::ledger::Blank;
@@ -203,12 +201,20 @@ fn is_refusal(refusal: &Refusal, wanted: Wanted) -> bool {
         (Refusal::NoSuchSnippet { id, count }, Wanted::NoSuchSnippet(wanted, records)) => {
             *id == wanted && *count == records
         }
-        (Refusal::NotLive { id, fate: Fate::Dropped }, Wanted::DroppedBefore(wanted)) => {
-            *id == wanted
-        }
-        (Refusal::NotLive { id, fate: Fate::Rejected }, Wanted::RejectedBefore(wanted)) => {
-            *id == wanted
-        }
+        (
+            Refusal::NotLive {
+                id,
+                fate: Fate::Dropped,
+            },
+            Wanted::DroppedBefore(wanted),
+        ) => { *id == wanted }
+        (
+            Refusal::NotLive {
+                id,
+                fate: Fate::Rejected,
+            },
+            Wanted::RejectedBefore(wanted),
+        ) => { *id == wanted }
         (Refusal::NoSuchName { matches, .. }, Wanted::NoSuchName(count)) => *matches == count,
         (Refusal::NoSuchRun { run }, Wanted::NoSuchRun(wanted)) => *run == wanted,
         (Refusal::NotOwner { owner }, Wanted::NotOwner(client)) => *owner == client,
@@ -331,7 +337,10 @@ const RESET: [Row; 6] = [
 #[test]
 fn snippets_are_listed(rt: HostRuntime) -> Result<(), Fail> {
     let core = do_rows::<Brand>(rt.alloc(), Blank::new(1), &LISTED)?;
-    assert_eq!(rt; (core.len(), core.numbers(), core.source_bytes()), (8, 1, 14));
+    assert_eq!(rt;
+        (core.len(), core.numbers(), core.source_bytes()),
+        (8, 1, 14)
+    );
     assert_eq!(rt; core.states().len(), 2);
     assert_eq!(rt;
         core.run(2),

@@ -63,14 +63,14 @@ const SNIPPETS: [Row; 12] = [
 /// Slash lines, and snippets that an `else` may follow.
 const SLASH_LINES: [Row; 9] = [
     (
-        b"/list\n1 +\n/list\n2\n",
-        "I</list>E<1 +\n/list>E<2>",
-        "|  Invalid command: /list\n|  Error at 2:1: unexpected text\n$2 ==> 2\n",
+        b"/lost\n1 +\n/lost\n2\n",
+        "I</lost>E<1 +\n/lost>E<2>",
+        "|  Invalid command: /lost\n|  Error at 2:1: unexpected text\n$2 ==> 2\n",
     ),
     (
-        b" \t/drop  x \n/?\n/ 1\n//c\n/*c*/ /x\n",
-        "I</drop  x>I</?>E</ 1>E</x>",
-        "|  Invalid command: /drop  x\n|  Invalid command: /?\n|  Error at 1:1: unexpected text\n|  Error at 1:1: unexpected text\n",
+        b" \t/drip  x \n/?x\n/ 1\n//c\n/*c*/ /x\n",
+        "I</drip  x>I</?x>E</ 1>E</x>",
+        "|  Invalid command: /drip  x\n|  Invalid command: /?x\n|  Error at 1:1: unexpected text\n|  Error at 1:1: unexpected text\n",
     ),
     (b"1\n/exit\n2\n", "E<1>", "$1 ==> 1\n"),
     (b" /exit \r\n2\n", "", ""),
@@ -85,9 +85,9 @@ const SLASH_LINES: [Row; 9] = [
         "|  Error at 1:1: not built yet\n$2 ==> 1\n",
     ),
     (
-        b"if (true) ;\n/vars\n",
-        "E<if (true) ;>I</vars>",
-        "|  Error at 1:1: not built yet\n|  Invalid command: /vars\n",
+        b"if (true) ;\n/var\n",
+        "E<if (true) ;>I</var>",
+        "|  Error at 1:1: not built yet\n|  Invalid command: /var\n",
     ),
     (
         b"if (true) ;",

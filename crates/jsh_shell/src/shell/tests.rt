@@ -281,12 +281,12 @@ fn stops_at_a_fault(rt: HostRuntime) -> Result<(), Fail> {
     Ok(())
 }
 
-/// So many lines, each of so many letters `x`.
-fn lines_of_x(alloc: Global, lines: u32, letters: u32) -> Result<Vec<u8>, AllocError> {
+/// So many lines, each of so many times this character.
+fn lines_of(alloc: Global, lines: u32, letter: u8, letters: u32) -> Result<Vec<u8>, AllocError> {
     let mut input = Vec::new(alloc);
     for _ in 0..lines {
         for _ in 0..letters {
-            input.push(b'x')?;
+            input.push(letter)?;
         }
         input.push(b'\n')?;
     }
@@ -296,10 +296,19 @@ fn lines_of_x(alloc: Global, lines: u32, letters: u32) -> Result<Vec<u8>, AllocE
 #[test]
 fn stops_at_a_limit(rt: HostRuntime) -> Result<(), Fail> {
     let rows = [
-        (1, 65_536, 0, 4, 31, "|  Error at 1:1: not built yet\n"),
-        (1, 65_537, 6, 3, 0, ""),
+        (
+            1,
+            b'x',
+            65_536,
+            0,
+            4,
+            31,
+            "|  Error at 1:1: not built yet\n",
+        ),
+        (1, b'x', 65_537, 6, 3, 0, ""),
         (
             16_385,
+            b';',
             1,
             6,
             16_388,
@@ -307,8 +316,8 @@ fn stops_at_a_limit(rt: HostRuntime) -> Result<(), Fail> {
             "|  limit reached: Records 16384\n",
         ),
     ];
-    for (lines, letters, status, entries, written, last) in rows {
-        let input = lines_of_x(rt.alloc(), lines, letters)?;
+    for (lines, letter, letters, status, entries, written, last) in rows {
+        let input = lines_of(rt.alloc(), lines, letter, letters)?;
         let mut desk = desk(rt.alloc(), &input, 4096, 4096, 0)?;
         let report = run(&rt, rt.alloc(), &[], &mut desk, &OpenGate);
         assert_eq!(rt; report.status, status);

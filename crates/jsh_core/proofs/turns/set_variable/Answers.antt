@@ -1,10 +1,10 @@
 -- The first frame has its answer, and its variable the value.
-use Rattle.std.proofs.Common.{◌≡◌, ℕ, ℤ, ◌-◌, List, ◌∷◌, Option, None, Some, ap, ◌∙◌, set, get_or, length, sym}
+use Rattle.std.specs.Prelude.{ℤ}
+use Rattle.std.specs.Int.{w32}
+use Rattle.std.proofs.lemmas.Int.{to_z-of_z}
+use Rattle.std.proofs.Common.{◌≡◌, ℕ, to_z, of_z, ◌-◌, List, ◌∷◌, Option, None, Some, ap, ◌∙◌, set, get_or}
 use Rattle.std.specs.List.{slice_get}
-use Rattle.std.specs.Vec.{with_items}
-use Rattle.std.proofs.lemmas.List.{with_items_is}
 use Rattle.std.proofs.lemmas.Option.{get_or_from_slice_get}
-use Rattle.std.proofs.Math.Facts.{to_z-of_z}
 use Rattle.jsh_tree.specs.declared.key.Link.{Link}
 use Rattle.jsh_text.specs.declared.value.Value.TheVariants as value
 use Rattle.jsh_core.specs.declared.world.Answer.TheVariants as «answer»
@@ -29,19 +29,13 @@ returns-in-Some-clause-ok c = λ t frame below there running.
     c.in_ok-answer_thread.ensures.ok frame below (ap (λ (x : Thread). x.frames) same ∙ running) ∙ ap (λ (x : Thread). thread_answered x frame below) same in
     let first : Some c.in-Some.frame.now ≡ Some (answered «answer».Empty frame) = c.in-Some.ensures.value ∙ ap (λ (x : Thread). slice_get x.frames 0) after in
     let front : c.in-Some.frame.now ≡ answered «answer».Empty frame = cc in
-    let cells : c.set_cell.new.cells ≡ set_cell frame.body.variable (value.Int c.args.value) c.args.world.now.cells.items =
+    let number : to_z w32 (of_z w32 c.args.value) ≡ c.args.value = to_z-of_z w32 c.args.value c.ranges.value in
+    let cells : c.set_cell.new.cells.items ≡ set_cell frame.body.variable (value.Int c.args.value) c.args.world.now.cells.items =
     c.set_cell.ensures
-    ∙ ap (λ (z : ℤ). set_cell c.in-Some.frame.now.body.variable (value.Int z) c.deref_mut.result.now) (to_z-of_z c.ranges.value)
-    ∙ ap (λ (xs : List Cell). set_cell c.in-Some.frame.now.body.variable (value.Int c.args.value) xs) c.deref_mut.ensures.value
+    ∙ ap (λ (v : ℤ). set_cell c.in-Some.frame.now.body.variable (value.Int v) c.args.world.now.cells.items) number
     ∙ ap (λ (x : Frame). set_cell x.body.variable (value.Int c.args.value) c.args.world.now.cells.items) front in
-    let kept : (with_items c.args.world.now.cells c.set_cell.new.cells).items ≡ c.set_cell.new.cells =
-    with_items_is c.args.world.now.cells c.set_cell.new.cells (c.set_cell.auto.cells ∙ ap length c.deref_mut.ensures.value ∙ sym c.args.world.now.cells.ok.0) in
-    ap (λ (xs : List Cell). record (world_of c.args.world.now) {
-      cells = xs;
-      threads = set c.args.world.now.threads.items (c.args.number - 1) c.answer_thread.new.thread;
-    }) kept
-    ∙ ap (λ (x : Thread). record (world_of c.args.world.now) {
-      cells = c.set_cell.new.cells;
+    ap (λ (x : Thread). record (world_of c.args.world.now) {
+      cells = c.set_cell.new.cells.items;
       threads = set c.args.world.now.threads.items (c.args.number - 1) x;
     }) after
     ∙ ap (λ (xs : List Cell). record (world_of c.args.world.now) {

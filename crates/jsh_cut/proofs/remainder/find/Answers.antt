@@ -1,11 +1,10 @@
-use Rattle.std.proofs.Common.{◌≡◌, ◌∙◌, ◌+◌, ◌-◌, ◌≤◌, ◌<◌, ℕ, List, take, drop, length, refl, ap, sym, subst, arith, length-drop}
+use Rattle.std.proofs.Common.{◌≡◌, ◌∙◌, ◌+◌, ◌-◌, ◌≤◌, ℕ, List, take, drop, length, ap, sym, subst}
 use Rattle.std.specs.Prelude.{slice_range}
 use Rattle.std.specs.Str.{IsUtf8, IsCharBoundary}
 use Rattle.jsh_tree.specs.declared.token.Token.{Token}
 use Rattle.jsh_complete.specs.Completeness.{end_of}
 use Rattle.jsh_complete.specs.declared.completion.Completeness.TheVariants as completeness
 use Rattle.jsh_cut.specs.Commands.{begin_of, completion}
-use Rattle.jsh_cut.specs.Rests.{IsRest}
 use Rattle.jsh_cut.proofs.Remainders.{said, first_of, left_of}
 use Rattle.jsh_cut.proofs.remainder.find.Goals as goal
 

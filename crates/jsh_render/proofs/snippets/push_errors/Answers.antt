@@ -1,7 +1,7 @@
 use Rattle.std.proofs.Common.{◌++◌, [], ◌∷◌, take, flat_map, ap, sym, ◌∙◌}
 use Rattle.std.proofs.lemmas.List.{flat_map_more, take_more}
-use Rattle.jsh_render.specs.Texts.{error_line}
-use Rattle.jsh_render.proofs.push_errors.Goals as goal
+use Rattle.jsh_render.specs.Diagnostics.{error_line}
+use Rattle.jsh_render.proofs.snippets.push_errors.Goals as goal
 
 pub loop-diagnostic-preserved : goal.loop-diagnostic-preserved
 loop-diagnostic-preserved c =

@@ -1,7 +1,8 @@
--- A command is handed in, its run does its turn, and the run is handed out.
-use Rattle.std.proofs.Common.{ap, ◌∙◌, Err}
-use Rattle.jsh_shell.proofs.ActLemmas.{serves-text, serves-run}
-use Rattle.jsh_shell.proofs.ServeLemmas.{part-in-turn, part-in-collect, cause-elsewhere, cause-later}
+-- A command is handed in, and its run is evaluated.
+use Rattle.std.proofs.Common.{ap, ◌∙◌, refl, [], ◌∷◌}
+use Rattle.jsh_shell.specs.Progress.{phase_after}
+use Rattle.jsh_shell.specs.Progress.Phase.{Between, Evaluating}
+use Rattle.jsh_shell.proofs.ServeLemmas.{cause-later, serves-append, serves-part-append}
 use Rattle.jsh_shell.proofs.evaluation.serve_command.Goals as goal
 
 pub hand_in-requires-clause-open : goal.hand_in-requires-clause-open
@@ -11,7 +12,7 @@ pub hand_in-requires-clause-servable : goal.hand_in-requires-clause-servable
 hand_in-requires-clause-servable g c = c.requires.servable
 
 pub returns-in-Err-clause-err : goal.returns-in-Err-clause-err
-returns-in-Err-clause-err g c = c.in-Err.ensures.err
+returns-in-Err-clause-err g c = c.in-Err.ensures.err c.args.budget
 
 pub returns-in-Err-clause-open : goal.returns-in-Err-clause-open
 returns-in-Err-clause-open g c = c.in-Err.ensures.open
@@ -22,8 +23,11 @@ returns-in-Err-clause-counts g c = c.in-Err.ensures.counts
 pub returns-in-Err-clause-stream : goal.returns-in-Err-clause-stream
 returns-in-Err-clause-stream g c = c.in-Err.ensures.stream
 
+pub evaluate-requires : goal.evaluate-requires
+evaluate-requires g c = c.in-Ok.ensures.open
+
 pub returns-in-None-clause-ok : goal.returns-in-None-clause-ok
-returns-in-None-clause-ok g c = serves-text _ _ _ _ _ _ (rw c.in-None.is at c.in-Ok.ensures.ok)
+returns-in-None-clause-ok g c = rw c.in-None.is at (c.in-Ok.ensures.ok c.args.budget)
 
 pub returns-in-None-clause-open : goal.returns-in-None-clause-open
 returns-in-None-clause-open g c = c.in-Ok.ensures.open
@@ -34,47 +38,28 @@ returns-in-None-clause-counts g c = c.in-Ok.ensures.counts
 pub returns-in-None-clause-stream : goal.returns-in-None-clause-stream
 returns-in-None-clause-stream g c = c.in-Ok.ensures.stream
 
-pub take_turn-requires-clause-open : goal.take_turn-requires-clause-open
-take_turn-requires-clause-open g c = c.in-Ok.ensures.open
+pub returns-in-Err-evaluate-clause-err : goal.returns-in-Err-evaluate-clause-err
+returns-in-Err-evaluate-clause-err g c =
+    serves-part-append c.in-Err-evaluate.why _ _ Between (Evaluating c.in-Some.run' 0) _ _ _ _ _ _ (c.args.command ∷ []) [] (rw c.in-Some.is at (c.in-Ok.ensures.ok c.args.budget)) c.in-Err-evaluate.ensures.err
 
-pub take_turn-requires-clause-fresh : goal.take_turn-requires-clause-fresh
-take_turn-requires-clause-fresh g c = rw c.in-Some.is at c.in-Ok.ensures.fresh
+pub returns-in-Err-evaluate-clause-open : goal.returns-in-Err-evaluate-clause-open
+returns-in-Err-evaluate-clause-open g c = c.in-Err-evaluate.ensures.open
 
-pub returns-in-Err-take_turn-clause-err : goal.returns-in-Err-take_turn-clause-err
-returns-in-Err-take_turn-clause-err g c = part-in-turn c.in-Err-take_turn.why _ c.in-Some.run' _ _ _ _ _ _ (rw c.in-Some.is at c.in-Ok.ensures.ok) c.in-Err-take_turn.ensures.err
+pub returns-in-Err-evaluate-clause-counts : goal.returns-in-Err-evaluate-clause-counts
+returns-in-Err-evaluate-clause-counts g c = cause-later c.in-Err-evaluate.why _ _ _ c.in-Ok.ensures.counts c.in-Err-evaluate.ensures.counts
 
-pub returns-in-Err-take_turn-clause-open : goal.returns-in-Err-take_turn-clause-open
-returns-in-Err-take_turn-clause-open g c = c.in-Err-take_turn.ensures.open
-
-pub returns-in-Err-take_turn-clause-counts : goal.returns-in-Err-take_turn-clause-counts
-returns-in-Err-take_turn-clause-counts g c = cause-later c.in-Err-take_turn.why _ _ _ c.in-Ok.ensures.counts (cause-elsewhere c.in-Err-take_turn.why _ (λ e. c.in-Err-take_turn.ensures.sink (ap Err e)))
-
-pub returns-in-Err-take_turn-clause-stream : goal.returns-in-Err-take_turn-clause-stream
-returns-in-Err-take_turn-clause-stream g c = c.in-Ok.ensures.stream
-
-pub hand_out-requires : goal.hand_out-requires
-hand_out-requires g c = record { «open» = c.in-Ok-take_turn.ensures.open }
-
-pub returns-in-Err-hand_out-clause-err : goal.returns-in-Err-hand_out-clause-err
-returns-in-Err-hand_out-clause-err g c = part-in-collect c.in-Err-hand_out.why _ c.in-Some.run' _ _ _ _ _ _ _ _ (rw c.in-Some.is at c.in-Ok.ensures.ok) c.in-Ok-take_turn.ensures.ok c.in-Err-hand_out.ensures.err
-
-pub returns-in-Err-hand_out-clause-open : goal.returns-in-Err-hand_out-clause-open
-returns-in-Err-hand_out-clause-open g c = c.in-Err-hand_out.ensures.open
-
-pub returns-in-Err-hand_out-clause-counts : goal.returns-in-Err-hand_out-clause-counts
-returns-in-Err-hand_out-clause-counts g c = cause-later c.in-Err-hand_out.why _ _ _ c.in-Ok.ensures.counts c.in-Err-hand_out.ensures.counts
-
-pub returns-in-Err-hand_out-clause-stream : goal.returns-in-Err-hand_out-clause-stream
-returns-in-Err-hand_out-clause-stream g c = c.in-Err-hand_out.ensures.stream ∙ c.in-Ok.ensures.stream
+pub returns-in-Err-evaluate-clause-stream : goal.returns-in-Err-evaluate-clause-stream
+returns-in-Err-evaluate-clause-stream g c = c.in-Err-evaluate.ensures.stream ∙ c.in-Ok.ensures.stream
 
 pub returns-clause-ok : goal.returns-clause-ok
-returns-clause-ok g c = serves-run _ c.in-Some.run' _ _ _ _ _ _ _ _ (rw c.in-Some.is at c.in-Ok.ensures.ok) c.in-Ok-take_turn.ensures.ok c.in-Ok-hand_out.ensures.ok
+returns-clause-ok g c =
+    serves-append _ _ Between (Evaluating c.in-Some.run' 0) Between _ _ _ _ _ _ (c.args.command ∷ []) [] (rw c.in-Some.is at (c.in-Ok.ensures.ok c.args.budget)) c.in-Ok-evaluate.ensures.ok
 
 pub returns-clause-open : goal.returns-clause-open
-returns-clause-open g c = c.in-Ok-hand_out.ensures.open
+returns-clause-open g c = c.in-Ok-evaluate.ensures.open
 
 pub returns-clause-counts : goal.returns-clause-counts
-returns-clause-counts g c = c.in-Ok-hand_out.ensures.counts ∙ c.in-Ok.ensures.counts
+returns-clause-counts g c = c.in-Ok-evaluate.ensures.counts ∙ c.in-Ok.ensures.counts
 
 pub returns-clause-stream : goal.returns-clause-stream
-returns-clause-stream g c = c.in-Ok-hand_out.ensures.stream ∙ c.in-Ok.ensures.stream
+returns-clause-stream g c = c.in-Ok-evaluate.ensures.stream ∙ c.in-Ok.ensures.stream

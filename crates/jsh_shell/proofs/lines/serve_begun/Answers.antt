@@ -3,13 +3,13 @@ use Rattle.std.proofs.Common.{refl, arith, ap, ◌∙◌, subst, List, ℕ, leng
 use Rattle.jsh_lines.specs.Lines.{as_text}
 use Rattle.jsh_cut.specs.Commands.{cut_line}
 use Rattle.jsh_shell.specs.Cutting.{ServesCut}
-use Rattle.jsh_shell.specs.Budget.{default_budget}
+use Rattle.jsh_shell.specs.Progress.Phase.{Between}
 use Rattle.jsh_shell.specs.Serving.{ServesPart}
 use Rattle.jsh_shell.proofs.ServeLemmas.{part-for-memory}
 use Rattle.jsh_shell.proofs.lines.serve_begun.Goals as goal
 
 pub returns-in-Err-clause-err : goal.returns-in-Err-clause-err
-returns-in-Err-clause-err g c = part-for-memory _ _ _ _
+returns-in-Err-clause-err g c = part-for-memory _ _ _ _ _ _
 
 pub returns-in-Err-clause-open : goal.returns-in-Err-clause-open
 returns-in-Err-clause-open g c = c.requires.open
@@ -29,7 +29,7 @@ serve_line-requires-clause-few g c =
 
 pub returns-in-Err-serve_line-clause-err : goal.returns-in-Err-serve_line-clause-err
 returns-in-Err-serve_line-clause-err g c =
-    subst (λ (line : List ℕ). ServesPart c.in-Err-serve_line.why default_budget c.args.client c.args.core.now c.serve_line.new.core (g.O.Sink.held c.args.sink.now) (g.O.Sink.held c.serve_line.new.sink) (cut_line c.args.held (as_text line)).commands)
+    subst (λ (line : List ℕ). ServesPart c.in-Err-serve_line.why c.args.budget c.args.client Between c.args.session.now c.serve_line.new.session (g.O.Sink.held c.args.sink.now) (g.O.Sink.held c.serve_line.new.sink) (cut_line c.args.held (as_text line)).commands)
     (c.as_slice.ensures.value ∙ c.in-Ok.ensures.items) c.in-Err-serve_line.ensures.err
 
 pub returns-in-Err-serve_line-clause-open : goal.returns-in-Err-serve_line-clause-open
@@ -43,7 +43,7 @@ returns-in-Err-serve_line-clause-stream g c = c.in-Err-serve_line.ensures.stream
 
 pub returns-clause-ok : goal.returns-clause-ok
 returns-clause-ok g c =
-    subst (λ (line : List ℕ). ServesCut default_budget c.args.client c.args.core.now c.serve_line.new.core (g.O.Sink.held c.args.sink.now) (g.O.Sink.held c.serve_line.new.sink) (cut_line c.args.held (as_text line)) c.in-Ok-serve_line.behind)
+    subst (λ (line : List ℕ). ServesCut c.args.budget c.args.client c.args.session.now c.serve_line.new.session (g.O.Sink.held c.args.sink.now) (g.O.Sink.held c.serve_line.new.sink) (cut_line c.args.held (as_text line)) c.in-Ok-serve_line.behind)
     (c.as_slice.ensures.value ∙ c.in-Ok.ensures.items) c.in-Ok-serve_line.ensures.ok
 
 pub returns-clause-begun : goal.returns-clause-begun

@@ -10,10 +10,10 @@ use Rattle.jsh_shell.proofs.ServeLemmas.{cause-later}
 use Rattle.jsh_shell.proofs.lines.serve_cutting.Goals as goal
 
 pub each-init : goal.each-init
-each-init g c = record { «open» = c.requires.open; cut = cutting-start _ _ _ _ c.requires.servable; unwritten = refl; stream = refl }
+each-init g c = record { «open» = c.requires.open; cut = cutting-start _ _ _ _ _ c.requires.servable; unwritten = refl; stream = refl }
 
 pub returns-in-Err-clause-err : goal.returns-in-Err-clause-err
-returns-in-Err-clause-err g c = cutting-memory c.in-Err.why _ _ _ _ _ _ _ c.each.invariant.cut c.in-Err.ensures.err
+returns-in-Err-clause-err g c = cutting-memory c.in-Err.why _ _ _ _ _ _ _ _ c.each.invariant.cut c.in-Err.ensures.err
 
 pub returns-in-Err-clause-open : goal.returns-in-Err-clause-open
 returns-in-Err-clause-open g c = c.each.invariant.open
@@ -25,7 +25,7 @@ pub returns-in-Err-clause-stream : goal.returns-in-Err-clause-stream
 returns-in-Err-clause-stream g c = c.each.invariant.stream
 
 pub returns-in-Last-clause-ok : goal.returns-in-Last-clause-ok
-returns-in-Last-clause-ok g c = cutting-last _ _ _ _ _ _ _ c.in-Last.behind c.each.invariant.cut (ap comes (sym c.in-Last.is) ∙ c.in-Ok.ensures.next)
+returns-in-Last-clause-ok g c = cutting-last _ _ _ _ _ _ _ _ c.in-Last.behind c.each.invariant.cut (ap comes (sym c.in-Last.is) ∙ c.in-Ok.ensures.next)
 
 pub returns-in-Last-clause-open : goal.returns-in-Last-clause-open
 returns-in-Last-clause-open g c = c.each.invariant.open
@@ -47,7 +47,7 @@ serve_command-requires-clause-servable g c =
 pub returns-in-Err-serve_command-clause-err : goal.returns-in-Err-serve_command-clause-err
 returns-in-Err-serve_command-clause-err g c =
     let next : with_command c.in-First.command (coming c.in-First.rest) ≡ coming c.each.left = ap comes (sym c.in-First.is) ∙ c.in-Ok.ensures.next in
-    cutting-part c.in-Err-serve_command.why _ _ _ _ _ _ _ _ _ _ c.in-First.command c.each.invariant.cut next c.in-Err-serve_command.ensures.err
+    cutting-part c.in-Err-serve_command.why _ _ _ _ _ _ _ _ _ _ _ c.in-First.command c.each.invariant.cut next c.in-Err-serve_command.ensures.err
 
 pub returns-in-Err-serve_command-clause-open : goal.returns-in-Err-serve_command-clause-open
 returns-in-Err-serve_command-clause-open g c = c.in-Err-serve_command.ensures.open
@@ -68,7 +68,7 @@ each-preserved g c =
     let next : with_command c.in-First.command (coming c.in-First.rest) ≡ coming c.each.left = ap comes (sym c.in-First.is) ∙ c.in-Ok.ensures.next in
     record {
       «open» = c.in-Ok-serve_command.ensures.open;
-      cut = cutting-more _ _ _ _ _ _ _ _ _ _ c.in-First.command c.each.invariant.cut next c.in-Ok-serve_command.ensures.ok;
+      cut = cutting-more _ _ _ _ _ _ _ _ _ _ _ c.in-First.command c.each.invariant.cut next c.in-Ok-serve_command.ensures.ok;
       unwritten = c.in-Ok-serve_command.ensures.counts ∙ c.each.invariant.unwritten;
       stream = c.in-Ok-serve_command.ensures.stream ∙ c.each.invariant.stream;
     }

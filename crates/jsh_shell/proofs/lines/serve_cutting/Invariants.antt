@@ -7,8 +7,8 @@ use Rattle.jsh_shell.proofs.lines.serve_cutting.Given as goal
 
 abbrev pub invariant-each : goal.invariant-each
 invariant-each g l = record {
-  «open» : IsOpen l.client l.core;
-  cut : IsCutting l.client l.initial.core l.core (g.O.Sink.held l.initial.sink) (g.O.Sink.held l.sink) (coming l.fn.cutting) (coming l.left);
+  «open» : IsOpen l.client l.session.core;
+  cut : IsCutting l.budget l.client l.initial.session l.session (g.O.Sink.held l.initial.sink) (g.O.Sink.held l.sink) (coming l.fn.cutting) (coming l.left);
   unwritten : g.O.Sink.faults l.sink ≡ g.O.Sink.faults l.initial.sink;
   stream : g.O.Sink.stream l.sink ≡ g.O.Sink.stream l.initial.sink;
 }

@@ -5,7 +5,7 @@ use Rattle.jsh_lines.specs.Lines.{as_text}
 use Rattle.jsh_cut.specs.declared.command.Command.{Command}
 use Rattle.jsh_cut.specs.Commands.{Gives, cut_end, cut_line}
 use Rattle.jsh_shell.specs.Cutting.{closing}
-use Rattle.jsh_shell.specs.Budget.{default_budget}
+use Rattle.jsh_shell.specs.Progress.Phase.{Between}
 use Rattle.jsh_shell.specs.Serving.{Serves, ServesPart}
 use Rattle.jsh_shell.proofs.Onward.{none_there, some_there, ending-empty, ending-line, closing-out, closing-on}
 use Rattle.jsh_shell.proofs.ServeLemmas.{cause-later, serves-append, serves-part-append, serves-part-more}
@@ -22,12 +22,12 @@ serve_line-requires-clause-few g c = c.requires.few
 
 pub returns-then-is_empty-clause-ok : goal.returns-then-is_empty-clause-ok
 returns-then-is_empty-clause-ok g c =
-    subst (λ (cs : List Command). OnOk c.serve_held.result (Serves default_budget c.args.client c.args.core.now c.serve_held.new.core (g.O.Sink.held c.args.sink.now) (g.O.Sink.held c.serve_held.new.sink) cs))
+    subst (λ (cs : List Command). OnOk c.serve_held.result (Serves c.args.budget c.args.client Between Between c.args.session.now c.serve_held.new.session (g.O.Sink.held c.args.sink.now) (g.O.Sink.held c.serve_held.new.sink) cs))
     (sym (ending-empty c.args.held c.args.rest.now (none_there c.args.rest.now c.is_empty.result c.is_empty.ensures c.if-is_empty.true))) c.serve_held.ensures.ok
 
 pub returns-then-is_empty-clause-err : goal.returns-then-is_empty-clause-err
 returns-then-is_empty-clause-err g c =
-    subst (λ (cs : List Command). IfErr c.serve_held.result (λ why. ServesPart why default_budget c.args.client c.args.core.now c.serve_held.new.core (g.O.Sink.held c.args.sink.now) (g.O.Sink.held c.serve_held.new.sink) cs))
+    subst (λ (cs : List Command). IfErr c.serve_held.result (λ why. ServesPart why c.args.budget c.args.client Between c.args.session.now c.serve_held.new.session (g.O.Sink.held c.args.sink.now) (g.O.Sink.held c.serve_held.new.sink) cs))
     (sym (ending-empty c.args.held c.args.rest.now (none_there c.args.rest.now c.is_empty.result c.is_empty.ensures c.if-is_empty.true))) c.serve_held.ensures.err
 
 pub returns-then-is_empty-clause-open : goal.returns-then-is_empty-clause-open
@@ -42,9 +42,9 @@ returns-then-is_empty-clause-stream g c = c.serve_held.ensures.stream
 pub returns-in-Err-clause-err : goal.returns-in-Err-clause-err
 returns-in-Err-clause-err g c =
     let line : Gives = cut_line c.args.held (as_text c.args.rest.now) in
-    subst (λ (cs : List Command). ServesPart c.in-Err.why default_budget c.args.client c.args.core.now c.serve_line.new.core (g.O.Sink.held c.args.sink.now) (g.O.Sink.held c.serve_line.new.sink) cs)
+    subst (λ (cs : List Command). ServesPart c.in-Err.why c.args.budget c.args.client Between c.args.session.now c.serve_line.new.session (g.O.Sink.held c.args.sink.now) (g.O.Sink.held c.serve_line.new.sink) cs)
     (sym (ending-line c.args.held c.args.rest.now (some_there c.args.rest.now c.is_empty.result c.is_empty.ensures c.if-is_empty.false)))
-    (serves-part-more c.in-Err.why _ _ _ _ _ line.commands (closing line) c.in-Err.ensures.err)
+    (serves-part-more c.in-Err.why _ _ _ _ _ _ _ line.commands (closing line) c.in-Err.ensures.err)
 
 pub returns-in-Err-clause-open : goal.returns-in-Err-clause-open
 returns-in-Err-clause-open g c = c.in-Err.ensures.open
@@ -59,7 +59,7 @@ pub returns-then-behind-clause-ok : goal.returns-then-behind-clause-ok
 returns-then-behind-clause-ok g c =
     let line : Gives = cut_line c.args.held (as_text c.args.rest.now) in
     let out : line.exits ≡ true = sym c.in-Ok.ensures.ok.exits ∙ c.if-behind.true in
-    subst (λ (cs : List Command). Serves default_budget c.args.client c.args.core.now c.serve_line.new.core (g.O.Sink.held c.args.sink.now) (g.O.Sink.held c.serve_line.new.sink) cs)
+    subst (λ (cs : List Command). Serves c.args.budget c.args.client Between Between c.args.session.now c.serve_line.new.session (g.O.Sink.held c.args.sink.now) (g.O.Sink.held c.serve_line.new.sink) cs)
     (sym (ending-line c.args.held c.args.rest.now (some_there c.args.rest.now c.is_empty.result c.is_empty.ensures c.if-is_empty.false)
     ∙ ap (λ (cs : List Command). line.commands ++ cs) (closing-out line out) ∙ append-nil line.commands))
     c.in-Ok.ensures.ok.serves
@@ -80,10 +80,10 @@ pub returns-in-Err-serve_held-clause-err : goal.returns-in-Err-serve_held-clause
 returns-in-Err-serve_held-clause-err g c =
     let line : Gives = cut_line c.args.held (as_text c.args.rest.now) in
     let on : line.exits ≡ false = sym c.in-Ok.ensures.ok.exits ∙ c.if-behind.false in
-    subst (λ (cs : List Command). ServesPart c.in-Err-serve_held.why default_budget c.args.client c.args.core.now c.serve_held-2.new.core (g.O.Sink.held c.args.sink.now) (g.O.Sink.held c.serve_held-2.new.sink) cs)
+    subst (λ (cs : List Command). ServesPart c.in-Err-serve_held.why c.args.budget c.args.client Between c.args.session.now c.serve_held-2.new.session (g.O.Sink.held c.args.sink.now) (g.O.Sink.held c.serve_held-2.new.sink) cs)
     (sym (ending-line c.args.held c.args.rest.now (some_there c.args.rest.now c.is_empty.result c.is_empty.ensures c.if-is_empty.false)
     ∙ ap (λ (cs : List Command). line.commands ++ cs) (closing-on line on ∙ ap cut_end (sym c.in-Ok.ensures.ok.held))))
-    (serves-part-append c.in-Err-serve_held.why _ _ _ _ _ _ _ line.commands (cut_end c.in-Ok.behind.held) c.in-Ok.ensures.ok.serves c.in-Err-serve_held.ensures.err)
+    (serves-part-append c.in-Err-serve_held.why _ _ _ _ _ _ _ _ _ _ line.commands (cut_end c.in-Ok.behind.held) c.in-Ok.ensures.ok.serves c.in-Err-serve_held.ensures.err)
 
 pub returns-in-Err-serve_held-clause-open : goal.returns-in-Err-serve_held-clause-open
 returns-in-Err-serve_held-clause-open g c = c.in-Err-serve_held.ensures.open
@@ -98,10 +98,10 @@ pub returns-clause-ok : goal.returns-clause-ok
 returns-clause-ok g c =
     let line : Gives = cut_line c.args.held (as_text c.args.rest.now) in
     let on : line.exits ≡ false = sym c.in-Ok.ensures.ok.exits ∙ c.if-behind.false in
-    subst (λ (cs : List Command). Serves default_budget c.args.client c.args.core.now c.serve_held-2.new.core (g.O.Sink.held c.args.sink.now) (g.O.Sink.held c.serve_held-2.new.sink) cs)
+    subst (λ (cs : List Command). Serves c.args.budget c.args.client Between Between c.args.session.now c.serve_held-2.new.session (g.O.Sink.held c.args.sink.now) (g.O.Sink.held c.serve_held-2.new.sink) cs)
     (sym (ending-line c.args.held c.args.rest.now (some_there c.args.rest.now c.is_empty.result c.is_empty.ensures c.if-is_empty.false)
     ∙ ap (λ (cs : List Command). line.commands ++ cs) (closing-on line on ∙ ap cut_end (sym c.in-Ok.ensures.ok.held))))
-    (serves-append _ _ _ _ _ _ _ line.commands (cut_end c.in-Ok.behind.held) c.in-Ok.ensures.ok.serves c.in-Ok-serve_held.ensures.ok)
+    (serves-append _ _ _ _ _ _ _ _ _ _ _ line.commands (cut_end c.in-Ok.behind.held) c.in-Ok.ensures.ok.serves c.in-Ok-serve_held.ensures.ok)
 
 pub returns-clause-open : goal.returns-clause-open
 returns-clause-open g c = c.in-Ok-serve_held.ensures.open

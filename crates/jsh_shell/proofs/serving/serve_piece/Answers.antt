@@ -3,14 +3,14 @@ use Rattle.std.proofs.Common.{refl, rules, ◌≡◌, ◌<◌, ◌+◌, ◌++◌
 use Rattle.jsh_lines.specs.Lines.{as_text, has_line_feed, cut}
 use Rattle.jsh_cut.specs.Commands.{cut_line}
 use Rattle.jsh_shell.specs.Cutting.{ServesCut}
-use Rattle.jsh_shell.specs.Budget.{default_budget}
+use Rattle.jsh_shell.specs.Progress.Phase.{Between}
 use Rattle.jsh_shell.specs.Serving.{ServesPart}
 use Rattle.jsh_shell.proofs.ServeLemmas.{cause-later}
 use Rattle.jsh_shell.proofs.PieceLemmas.{IsAlong, along-start, along-line, along-exit, along-part, along-memory, along-end, along-rest, behind-feed}
 use Rattle.jsh_shell.proofs.serving.serve_piece.Goals as goal
 
 pub lines-init : goal.lines-init
-lines-init g c = record { «open» = c.requires.open; uncut = c.requires.uncut; few = omega arith; along = along-start _ _ _ _ _; unwritten = refl; stream = refl }
+lines-init g c = record { «open» = c.requires.open; uncut = c.requires.uncut; few = omega arith; along = along-start _ _ _ _ _ _; unwritten = refl; stream = refl }
 
 pub split_at-requires : goal.split_at-requires
 split_at-requires g c = let h : c.in-Some.at < length c.lines.rest.now = c.in-Some.ensures.0 in omega (arith, h)
@@ -25,8 +25,8 @@ serve_begun-requires-clause-few g c =
     omega (arith, h, long, c.lines.invariant.few, c.requires.few)
 
 pub returns-in-Err-clause-err : goal.returns-in-Err-clause-err
-returns-in-Err-clause-err g c = along-part c.in-Err.why _ _ _ _ _ _ _ _ c.lines.waiting _ c.lines.begun.items c.lines.rest.now c.in-Some.at c.lines.invariant.along c.lines.invariant.uncut c.in-Some.ensures
-    (subst (λ (line : List ℕ). ServesPart c.in-Err.why default_budget c.args.client c.lines.core c.serve_begun.new.core (g.O.Sink.held c.lines.sink) (g.O.Sink.held c.serve_begun.new.sink) (cut_line c.lines.waiting (as_text (c.lines.begun.items ++ line))).commands) c.split_at.ensures.front c.in-Err.ensures.err)
+returns-in-Err-clause-err g c = along-part c.in-Err.why _ _ _ _ _ _ _ _ _ c.lines.waiting _ c.lines.begun.items c.lines.rest.now c.in-Some.at c.lines.invariant.along c.lines.invariant.uncut c.in-Some.ensures
+    (subst (λ (line : List ℕ). ServesPart c.in-Err.why c.args.budget c.args.client Between c.lines.session c.serve_begun.new.session (g.O.Sink.held c.lines.sink) (g.O.Sink.held c.serve_begun.new.sink) (cut_line c.lines.waiting (as_text (c.lines.begun.items ++ line))).commands) c.split_at.ensures.front c.in-Err.ensures.err)
 
 pub returns-in-Err-clause-open : goal.returns-in-Err-clause-open
 returns-in-Err-clause-open g c = c.in-Err.ensures.open
@@ -39,8 +39,8 @@ returns-in-Err-clause-stream g c = c.in-Err.ensures.stream ∙ c.lines.invariant
 
 pub returns-then-behind-clause-ok : goal.returns-then-behind-clause-ok
 returns-then-behind-clause-ok g c =
-    along-exit _ _ _ _ _ _ _ _ c.lines.waiting c.in-Ok.behind _ c.lines.begun.items c.lines.rest.now c.in-Some.at c.lines.invariant.along c.lines.invariant.uncut c.in-Some.ensures
-    (subst (λ (line : List ℕ). ServesCut default_budget c.args.client c.lines.core c.serve_begun.new.core (g.O.Sink.held c.lines.sink) (g.O.Sink.held c.serve_begun.new.sink) (cut_line c.lines.waiting (as_text (c.lines.begun.items ++ line))) c.in-Ok.behind) c.split_at.ensures.front c.in-Ok.ensures.ok)
+    along-exit _ _ _ _ _ _ _ _ _ c.lines.waiting c.in-Ok.behind _ c.lines.begun.items c.lines.rest.now c.in-Some.at c.lines.invariant.along c.lines.invariant.uncut c.in-Some.ensures
+    (subst (λ (line : List ℕ). ServesCut c.args.budget c.args.client c.lines.session c.serve_begun.new.session (g.O.Sink.held c.lines.sink) (g.O.Sink.held c.serve_begun.new.sink) (cut_line c.lines.waiting (as_text (c.lines.begun.items ++ line))) c.in-Ok.behind) c.split_at.ensures.front c.in-Ok.ensures.ok)
     c.if-behind.true
 
 pub returns-then-behind-clause-begun : goal.returns-then-behind-clause-begun
@@ -77,10 +77,10 @@ lines-preserved g c =
       «open» = c.in-Ok.ensures.open;
       uncut = ap (λ (h : List ℕ). (cut h).rest) c.in-Ok.ensures.begun ∙ sym c.in-Ok.ensures.begun;
       few = omega (arith, h, long, c.lines.invariant.few, c.in-Ok.ensures.few, ap length c.in-Ok.ensures.begun, c.split_at.ensures.back_len, c.split_at-in-Some.ensures.back_len);
-      along = subst (λ (left : List ℕ). IsAlong c.args.client c.args.core.now c.serve_begun.new.core (g.O.Sink.held c.args.sink.now) (g.O.Sink.held c.serve_begun.new.sink) c.args.held c.in-Ok.behind.held (c.args.begun.now.items ++ c.args.piece.now) left)
+      along = subst (λ (left : List ℕ). IsAlong c.args.budget c.args.client c.args.session.now c.serve_begun.new.session (g.O.Sink.held c.args.sink.now) (g.O.Sink.held c.serve_begun.new.sink) c.args.held c.in-Ok.behind.held (c.args.begun.now.items ++ c.args.piece.now) left)
           (sym (ap (λ (h : List ℕ). h ++ c.split_at-in-Some.result.1.now) c.in-Ok.ensures.begun ∙ next))
-          (along-line _ _ _ _ _ _ _ _ c.lines.waiting c.in-Ok.behind _ c.lines.begun.items c.lines.rest.now c.in-Some.at c.lines.invariant.along c.lines.invariant.uncut c.in-Some.ensures
-          (subst (λ (line : List ℕ). ServesCut default_budget c.args.client c.lines.core c.serve_begun.new.core (g.O.Sink.held c.lines.sink) (g.O.Sink.held c.serve_begun.new.sink) (cut_line c.lines.waiting (as_text (c.lines.begun.items ++ line))) c.in-Ok.behind) c.split_at.ensures.front c.in-Ok.ensures.ok)
+          (along-line _ _ _ _ _ _ _ _ _ c.lines.waiting c.in-Ok.behind _ c.lines.begun.items c.lines.rest.now c.in-Some.at c.lines.invariant.along c.lines.invariant.uncut c.in-Some.ensures
+          (subst (λ (line : List ℕ). ServesCut c.args.budget c.args.client c.lines.session c.serve_begun.new.session (g.O.Sink.held c.lines.sink) (g.O.Sink.held c.serve_begun.new.sink) (cut_line c.lines.waiting (as_text (c.lines.begun.items ++ line))) c.in-Ok.behind) c.split_at.ensures.front c.in-Ok.ensures.ok)
           c.if-behind.false);
       unwritten = c.in-Ok.ensures.counts ∙ c.lines.invariant.unwritten;
       stream = c.in-Ok.ensures.stream ∙ c.lines.invariant.stream;
@@ -89,12 +89,12 @@ lines-preserved g c =
 pub returns-in-Ok-extend_from_slice-clause-ok : goal.returns-in-Ok-extend_from_slice-clause-ok
 returns-in-Ok-extend_from_slice-clause-ok g c =
     let none : has_line_feed c.lines.rest.now ≡ false = search rules in
-    along-end _ _ _ _ _ _ c.lines.waiting _ c.lines.begun.items c.lines.rest.now c.lines.invariant.along c.lines.invariant.uncut none
+    along-end _ _ _ _ _ _ _ c.lines.waiting _ c.lines.begun.items c.lines.rest.now c.lines.invariant.along c.lines.invariant.uncut none
 
 pub returns-in-Ok-extend_from_slice-clause-begun : goal.returns-in-Ok-extend_from_slice-clause-begun
 returns-in-Ok-extend_from_slice-clause-begun g c = λ on.
     let none : has_line_feed c.lines.rest.now ≡ false = search rules in
-    c.in-Ok-extend_from_slice.ensures.items ∙ sym (along-rest _ _ _ _ _ _ c.lines.waiting _ c.lines.begun.items c.lines.rest.now c.lines.invariant.along c.lines.invariant.uncut none)
+    c.in-Ok-extend_from_slice.ensures.items ∙ sym (along-rest _ _ _ _ _ _ _ c.lines.waiting _ c.lines.begun.items c.lines.rest.now c.lines.invariant.along c.lines.invariant.uncut none)
 
 pub returns-in-Ok-extend_from_slice-clause-few : goal.returns-in-Ok-extend_from_slice-clause-few
 returns-in-Ok-extend_from_slice-clause-few g c = λ on.
@@ -110,7 +110,7 @@ pub returns-in-Ok-extend_from_slice-clause-stream : goal.returns-in-Ok-extend_fr
 returns-in-Ok-extend_from_slice-clause-stream g c = c.lines.invariant.stream
 
 pub returns-in-Err-extend_from_slice-clause-err : goal.returns-in-Err-extend_from_slice-clause-err
-returns-in-Err-extend_from_slice-clause-err g c = along-memory _ _ _ _ _ _ c.lines.waiting _ (c.lines.begun.items ++ c.lines.rest.now) c.lines.invariant.along
+returns-in-Err-extend_from_slice-clause-err g c = along-memory _ _ _ _ _ _ _ c.lines.waiting _ (c.lines.begun.items ++ c.lines.rest.now) c.lines.invariant.along
 
 pub returns-in-Err-extend_from_slice-clause-open : goal.returns-in-Err-extend_from_slice-clause-open
 returns-in-Err-extend_from_slice-clause-open g c = c.lines.invariant.open

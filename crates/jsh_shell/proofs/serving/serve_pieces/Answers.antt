@@ -3,7 +3,8 @@ use Rattle.std.proofs.Common.{refl, ◌≡◌, ◌≤◌, ◌<◌, ◌+◌, ◌-
 use Rattle.std.specs.Io.KnownBytes.{prepend_known}
 use Rattle.jsh_io.specs.Count.{Rose}
 use Rattle.jsh_cut.specs.declared.held.Held.TheVariants as held
-use Rattle.jsh_shell.specs.Budget.{default_budget, most_input}
+use Rattle.jsh_shell.specs.Progress.Phase.{Between}
+use Rattle.jsh_shell.specs.Input.{most_input}
 use Rattle.jsh_shell.specs.Cutting.{ending}
 use Rattle.jsh_shell.specs.Serving.{Serves, ServesPart}
 use Rattle.jsh_shell.proofs.ServeLemmas.{cause-later}
@@ -15,8 +16,8 @@ pieces-init g c = record {
   «open» = c.requires.open;
   few = omega arith;
   short = omega (arith, ap length c.new-begun.ensures.items);
-  reading = subst (λ (h : List ℕ). IsReading c.args.client c.args.core.now c.args.core.now (g.I.Source.left c.args.source.now) (g.I.Source.left c.args.source.now) (g.O.Sink.held c.args.sink.now) (g.O.Sink.held c.args.sink.now) held.Nothing h 0)
-      (sym c.new-begun.ensures.items) (reading-start _ _ _ _);
+  reading = subst (λ (h : List ℕ). IsReading c.args.budget c.args.client c.args.session.now c.args.session.now (g.I.Source.left c.args.source.now) (g.I.Source.left c.args.source.now) (g.O.Sink.held c.args.sink.now) (g.O.Sink.held c.args.sink.now) held.Nothing h 0)
+      (sym c.new-begun.ensures.items) (reading-start _ _ _ _ _);
   unread = refl;
   unwritten = refl;
   stream = refl;
@@ -32,7 +33,7 @@ pub read_some-requires-clause-fits : goal.read_some-requires-clause-fits
 read_some-requires-clause-fits g c = omega (arith, c.min-room.ensures, c.pieces.auto.buffer, c.requires.piece)
 
 pub returns-in-Err-clause-served : goal.returns-in-Err-clause-served
-returns-in-Err-clause-served g c = served-failed _ _ _ _ _ _ _ _ _ _ _ _ c.pieces.held c.pieces.begun.items c.pieces.total c.pieces.invariant.reading c.in-Err.ensures.none_lost c.pieces-test.true
+returns-in-Err-clause-served g c = served-failed _ _ _ _ _ _ _ _ _ _ _ _ _ c.pieces.held c.pieces.begun.items c.pieces.total c.pieces.invariant.reading c.in-Err.ensures.none_lost c.pieces-test.true
     (subst (λ (n : ℕ). Rose n (g.I.Source.faults c.read_some.new.source)) c.pieces.invariant.unread c.in-Err.ensures.failed) c.pieces.invariant.unwritten
 
 pub returns-in-Err-clause-open : goal.returns-in-Err-clause-open
@@ -50,10 +51,10 @@ serve_end-requires-clause-few g c = omega (arith, c.pieces.invariant.short, c.pi
 pub returns-in-Ok-serve_end-clause-served : goal.returns-in-Ok-serve_end-clause-served
 returns-in-Ok-serve_end-clause-served g c =
     let none : c.in-Ok.count ≡ 0 = c.if-count-eq0.true in
-    served-whole _ _ _ _ _ _ _ _ _ _ _ _ _ _ c.pieces.held c.pieces.begun.items c.pieces.total c.pieces.invariant.reading
+    served-whole _ _ _ _ _ _ _ _ _ _ _ _ _ _ _ c.pieces.held c.pieces.begun.items c.pieces.total c.pieces.invariant.reading
     (c.in-Ok.ensures.bytes ∙ ap (λ n. prepend_known (take n c.read_some.new.buffer) (g.I.Source.left c.read_some.new.source)) none)
     (c.in-Ok.ensures.end (ap Ok none)) c.pieces-test.true
-    (subst (λ (line : List ℕ). Serves default_budget c.args.client c.pieces.core c.serve_end.new.core (g.O.Sink.held c.pieces.sink) (g.O.Sink.held c.serve_end.new.sink) (ending c.pieces.held line)) c.as_slice.ensures.value c.in-Ok-serve_end.ensures.ok)
+    (subst (λ (line : List ℕ). Serves c.args.budget c.args.client Between Between c.pieces.session c.serve_end.new.session (g.O.Sink.held c.pieces.sink) (g.O.Sink.held c.serve_end.new.sink) (ending c.pieces.held line)) c.as_slice.ensures.value c.in-Ok-serve_end.ensures.ok)
     (c.in-Ok.ensures.no_fault ∙ c.pieces.invariant.unread) (c.in-Ok-serve_end.ensures.counts ∙ c.pieces.invariant.unwritten)
 
 pub returns-in-Ok-serve_end-clause-open : goal.returns-in-Ok-serve_end-clause-open
@@ -65,11 +66,11 @@ returns-in-Ok-serve_end-clause-stream g c = c.in-Ok-serve_end.ensures.stream ∙
 pub returns-in-Err-serve_end-clause-served : goal.returns-in-Err-serve_end-clause-served
 returns-in-Err-serve_end-clause-served g c =
     let none : c.in-Ok.count ≡ 0 = c.if-count-eq0.true in
-    served-part-end _ _ _ _ c.in-Err-serve_end.why _ c.status.result _ _ _ _ _ _ _ _ _ c.pieces.held c.pieces.begun.items c.pieces.total c.pieces.invariant.reading
+    served-part-end _ _ _ _ c.in-Err-serve_end.why _ _ c.status.result _ _ _ _ _ _ _ _ _ c.pieces.held c.pieces.begun.items c.pieces.total c.pieces.invariant.reading
     (c.in-Ok.ensures.bytes ∙ ap (λ n. prepend_known (take n c.read_some.new.buffer) (g.I.Source.left c.read_some.new.source)) none)
     (c.in-Ok.ensures.end (ap Ok none)) c.pieces.invariant.few c.status.ensures
     (c.in-Ok.ensures.no_fault ∙ c.pieces.invariant.unread) (cause-later c.in-Err-serve_end.why _ _ _ c.pieces.invariant.unwritten c.in-Err-serve_end.ensures.counts)
-    (subst (λ (line : List ℕ). ServesPart c.in-Err-serve_end.why default_budget c.args.client c.pieces.core c.serve_end.new.core (g.O.Sink.held c.pieces.sink) (g.O.Sink.held c.serve_end.new.sink) (ending c.pieces.held line)) c.as_slice.ensures.value c.in-Err-serve_end.ensures.err)
+    (subst (λ (line : List ℕ). ServesPart c.in-Err-serve_end.why c.args.budget c.args.client Between c.pieces.session c.serve_end.new.session (g.O.Sink.held c.pieces.sink) (g.O.Sink.held c.serve_end.new.sink) (ending c.pieces.held line)) c.as_slice.ensures.value c.in-Err-serve_end.ensures.err)
 
 pub returns-in-Err-serve_end-clause-open : goal.returns-in-Err-serve_end-clause-open
 returns-in-Err-serve_end-clause-open g c = c.in-Err-serve_end.ensures.open
@@ -100,7 +101,7 @@ pub returns-in-Err-serve_piece-clause-served : goal.returns-in-Err-serve_piece-c
 returns-in-Err-serve_piece-clause-served g c =
     let within : c.in-Ok.count ≤ length c.read_some.new.buffer = omega (arith, c.in-Ok.ensures.bound, c.min-room.ensures, c.read_some.auto.buffer, c.pieces.auto.buffer, c.requires.piece) in
     let few : c.pieces.total + length (take c.in-Ok.count c.read_some.new.buffer) ≤ most_input = omega (arith, within, length-take c.in-Ok.count c.read_some.new.buffer, c.in-Ok.ensures.bound, c.min-room.ensures, c.pieces.invariant.few) in
-    served-part-piece _ _ _ _ c.in-Err-serve_piece.why _ c.status-in-Err-serve_piece.result _ _ _ _ _ _ _ _ _ c.pieces.held c.pieces.begun.items (take c.in-Ok.count c.read_some.new.buffer) c.pieces.total c.pieces.invariant.reading
+    served-part-piece _ _ _ _ c.in-Err-serve_piece.why _ _ c.status-in-Err-serve_piece.result _ _ _ _ _ _ _ _ _ c.pieces.held c.pieces.begun.items (take c.in-Ok.count c.read_some.new.buffer) c.pieces.total c.pieces.invariant.reading
     c.in-Ok.ensures.bytes few c.status-in-Err-serve_piece.ensures
     (c.in-Ok.ensures.no_fault ∙ c.pieces.invariant.unread) (cause-later c.in-Err-serve_piece.why _ _ _ c.pieces.invariant.unwritten c.in-Err-serve_piece.ensures.counts) c.in-Err-serve_piece.ensures.err
 
@@ -117,7 +118,7 @@ pub returns-then-total-lt-MOST_INPUT-clause-served : goal.returns-then-total-lt-
 returns-then-total-lt-MOST_INPUT-clause-served g c =
     let within : c.in-Ok.count ≤ length c.read_some.new.buffer = omega (arith, c.in-Ok.ensures.bound, c.min-room.ensures, c.read_some.auto.buffer, c.pieces.auto.buffer, c.requires.piece) in
     let less : c.pieces.total + length (take c.in-Ok.count c.read_some.new.buffer) < most_input = omega (arith, within, length-take c.in-Ok.count c.read_some.new.buffer, c.if-total-lt-MOST_INPUT.true) in
-    served-exit _ _ _ _ _ _ _ _ _ _ _ _ _ _ c.pieces.held c.in-Ok-serve_piece.behind c.pieces.begun.items (take c.in-Ok.count c.read_some.new.buffer) c.pieces.total c.pieces.invariant.reading
+    served-exit _ _ _ _ _ _ _ _ _ _ _ _ _ _ _ c.pieces.held c.in-Ok-serve_piece.behind c.pieces.begun.items (take c.in-Ok.count c.read_some.new.buffer) c.pieces.total c.pieces.invariant.reading
     c.in-Ok.ensures.bytes less c.in-Ok-serve_piece.ensures.ok c.if-behind.true
     (c.in-Ok.ensures.no_fault ∙ c.pieces.invariant.unread) (c.in-Ok-serve_piece.ensures.counts ∙ c.pieces.invariant.unwritten)
 
@@ -131,7 +132,7 @@ pub returns-then-behind-clause-served : goal.returns-then-behind-clause-served
 returns-then-behind-clause-served g c =
     let within : c.in-Ok.count ≤ length c.read_some.new.buffer = omega (arith, c.in-Ok.ensures.bound, c.min-room.ensures, c.read_some.auto.buffer, c.pieces.auto.buffer, c.requires.piece) in
     let full : c.pieces.total + length (take c.in-Ok.count c.read_some.new.buffer) ≡ most_input = omega (arith, within, length-take c.in-Ok.count c.read_some.new.buffer, c.if-total-lt-MOST_INPUT.false, c.in-Ok.ensures.bound, c.min-room.ensures, c.pieces.invariant.few) in
-    served-exit-most _ _ _ _ _ _ _ _ _ _ _ _ _ _ c.pieces.held c.in-Ok-serve_piece.behind c.pieces.begun.items (take c.in-Ok.count c.read_some.new.buffer) c.pieces.total c.pieces.invariant.reading
+    served-exit-most _ _ _ _ _ _ _ _ _ _ _ _ _ _ _ c.pieces.held c.in-Ok-serve_piece.behind c.pieces.begun.items (take c.in-Ok.count c.read_some.new.buffer) c.pieces.total c.pieces.invariant.reading
     c.in-Ok.ensures.bytes full c.in-Ok-serve_piece.ensures.ok
     (c.in-Ok.ensures.no_fault ∙ c.pieces.invariant.unread) (c.in-Ok-serve_piece.ensures.counts ∙ c.pieces.invariant.unwritten)
 
@@ -156,7 +157,7 @@ pieces-preserved g c =
       «open» = c.in-Ok-serve_piece.ensures.open;
       few = omega (arith, c.in-Ok.ensures.bound, c.min-room.ensures, c.pieces.invariant.few);
       short = omega (arith, c.in-Ok-serve_piece.ensures.few c.if-behind.false, c.pieces.invariant.short, long);
-      reading = reading-more _ _ _ _ _ _ _ _ _ _ c.pieces.held c.in-Ok-serve_piece.behind c.pieces.begun.items (take c.in-Ok.count c.read_some.new.buffer) _ c.pieces.total (c.pieces.total + c.in-Ok.count) c.pieces.invariant.reading
+      reading = reading-more _ _ _ _ _ _ _ _ _ _ _ c.pieces.held c.in-Ok-serve_piece.behind c.pieces.begun.items (take c.in-Ok.count c.read_some.new.buffer) _ c.pieces.total (c.pieces.total + c.in-Ok.count) c.pieces.invariant.reading
           c.in-Ok.ensures.bytes long c.in-Ok-serve_piece.ensures.ok c.if-behind.false (c.in-Ok-serve_piece.ensures.begun c.if-behind.false);
       unread = c.in-Ok.ensures.no_fault ∙ c.pieces.invariant.unread;
       unwritten = c.in-Ok-serve_piece.ensures.counts ∙ c.pieces.invariant.unwritten;
@@ -166,7 +167,7 @@ pieces-preserved g c =
 pub returns-clause-served : goal.returns-clause-served
 returns-clause-served g c =
     let full : c.pieces.total ≡ most_input = omega (arith, c.pieces-test.false, c.pieces.invariant.few) in
-    served-most _ _ _ _ _ _ _ _ _ _ _ c.pieces.held c.pieces.begun.items c.pieces.total c.pieces.invariant.reading full c.pieces.invariant.unread c.pieces.invariant.unwritten
+    served-most _ _ _ _ _ _ _ _ _ _ _ _ c.pieces.held c.pieces.begun.items c.pieces.total c.pieces.invariant.reading full c.pieces.invariant.unread c.pieces.invariant.unwritten
 
 pub returns-clause-open : goal.returns-clause-open
 returns-clause-open g c = c.pieces.invariant.open

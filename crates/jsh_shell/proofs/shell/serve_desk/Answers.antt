@@ -60,11 +60,11 @@ pub returns-clause-alone : goal.returns-clause-alone
 returns-clause-alone g c = λ e. inr (c.serve_standard.ensures.alone e)
 
 pub returns-clause-healthy : goal.returns-clause-healthy
-returns-clause-healthy g c = λ well streams. healthy-status c.serve_standard.result.status (λ r. Rose 0 (g.D.In.Source.faults r.source)) (λ r. Rose 0 (g.D.Out.Sink.faults r.sink)) c.serve_standard.result.clients.items c.serve_standard.ensures.alone
+returns-clause-healthy g c = λ well streams. healthy-status c.serve_standard.result.status (λ r. Rose 0 (g.D.In.Source.faults r.source)) (λ r. Rose 0 (g.D.Out.Sink.faults r.sink)) c.serve_standard.result.clients.items (λ e. (c.serve_standard.ensures.alone e).0)
     (λ k d h. let s = c.serve_standard.ensures.served k d h in served-causes s.1 (served-fresh _ _ _ _ c.in-Ok.ensures.fresh_in c.in-Ok.ensures.fresh_out s.2)) streams
 
 pub returns-clause-accepted : goal.returns-clause-accepted
-returns-clause-accepted g c = accepted-status c.serve_standard.result.status (λ r. Rose 0 (g.D.In.Source.faults r.source)) (λ r. Rose 0 (g.D.Out.Sink.faults r.sink)) c.serve_standard.result.clients.items c.serve_standard.ensures.alone
+returns-clause-accepted g c = accepted-status c.serve_standard.result.status (λ r. Rose 0 (g.D.In.Source.faults r.source)) (λ r. Rose 0 (g.D.Out.Sink.faults r.sink)) c.serve_standard.result.clients.items (λ e. (c.serve_standard.ensures.alone e).0)
     (λ k d h. let s = c.serve_standard.ensures.served k d h in served-causes s.1 (served-fresh _ _ _ _ c.in-Ok.ensures.fresh_in c.in-Ok.ensures.fresh_out s.2))
 
 pub returns-clause-one : goal.returns-clause-one

@@ -1,9 +1,10 @@
 -- The log and the parts stand for the history with the entry that was done.
-use Rattle.std.proofs.Common.{◌≤◌, ◌+◌, length, min, vec_capacity, ap, subst, ◌∙◌, arith}
+use Rattle.std.proofs.Common.{◌≡◌, ◌<◌, ◌≤◌, ◌+◌, rules, length, min, vec_capacity, ap, subst, ◌∙◌, arith}
 use Rattle.jsh_snippet.specs.declared.acts.Entry.{Entry}
 use Rattle.jsh_core.specs.State.{State, Stepped}
 use Rattle.jsh_core.specs.Step.{act_step, step}
-use Rattle.jsh_core.specs.History.{state_of, Allows}
+use Rattle.jsh_core.specs.History.{act_bytes, state_of, Allows}
+use Rattle.jsh_core.proofs.ByteLemmas.{bytes-fit, bytes-kept}
 use Rattle.jsh_core.proofs.CauseLemmas.{reply-causes}
 use Rattle.jsh_core.proofs.DeliveryLemmas.{IsReplied, replied-done}
 use Rattle.jsh_core.proofs.KeptLemmas.{IsRoomy, StandsFor-cut, StandsFor-kept}
@@ -17,6 +18,15 @@ push_entry-requires-clause-room g c =
     let room : length c.make_room.new.log.history.items + 1 ≤ vec_capacity c.make_room.new.log.history =
     room-for c.self.inside.log c.make_room.new.log c.self.inside.parts c.args.entry c.self.invariant allowed c.make_room.ensures.items c.make_room.ensures.capacity c.in_ok-make_room.ensures.room in
     omega (arith, c.make_room.new.log.history.ok.0, room)
+
+pub push_entry-requires-clause-few : goal.push_entry-requires-clause-few
+push_entry-requires-clause-few g c =
+    let allowed : Allows c.self.inside.log.history.items c.args.entry = rw c.self.view_is c.requires in
+    let same : act_bytes c.kept_entry.result.act ≡ act_bytes c.args.entry.act =
+    ap (λ (e : Entry). act_bytes e.act) c.kept_entry.ensures ∙ bytes-kept c.args.entry.act c.deliver-reply.result.body in
+    let fits : c.self.inside.log.bytes + act_bytes c.args.entry.act < 18446744073709551616 =
+    bytes-fit c.self.inside.log.history.items c.args.entry.client c.args.entry.act c.self.inside.log.bytes c.self.invariant.bytes (search rules) allowed.may in
+    omega (arith, same, fits, c.make_room.ensures.bytes)
 
 pub perform-requires-clause-within : goal.perform-requires-clause-within
 perform-requires-clause-within g c =

@@ -1,0 +1,10 @@
+use Rattle.std.proofs.Common.{◌≡◌, length, map}
+use Rattle.jsh_commands.specs.Words.{word_in}
+use Rattle.jsh_commands.proofs.words.word_in.Given as goal
+
+abbrev pub invariant-loop-table : goal.invariant-loop-table
+invariant-loop-table l =
+    word_in (map (λ entry. (entry.0.now, entry.1)) l.table) l.text ≡ word_in (map (λ entry. (entry.0.now, entry.1)) l.initial.table) l.text
+
+abbrev pub decreases-loop-table : goal.decreases-loop-table
+decreases-loop-table l = length l.table
