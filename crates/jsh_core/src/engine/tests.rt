@@ -108,7 +108,18 @@ fn text_act(alloc: Global, doing: Doing) -> Result<Act, Fail> {
 fn is_answered(question: &Question) -> bool
     ensures { IsTrue result → IsAnswered question.now }
 {
-    !matches!(question, Question::Complete(_))
+    match question {
+        Question::List => true,
+        Question::ListAll => true,
+        Question::Vars => true,
+        Question::Methods => true,
+        Question::Types => true,
+        Question::Imports => true,
+        Question::Threads => true,
+        Question::Help => true,
+        Question::Complete(_) => false,
+        Question::Invalid(_) => true,
+    }
 }
 
 /// Whether the name is one by which a snippet can be taken back.
@@ -137,12 +148,17 @@ fn may_do(log: &Log, client: u32, act: &Act) -> bool
 {
     let room = has_room(log, act_bytes(act));
     match act {
+        Act::Enter => room,
+        Act::Submit { .. } => room,
         Act::Turn { steps, .. } => room && *steps >= 1 && *steps <= MOST_STEPS,
+        Act::Collect { .. } => room,
+        Act::Expire { .. } => room,
+        Act::Stop { .. } => room,
         Act::Drop { target } => room && is_target(target),
         Act::Ask { question } => room && is_answered(question),
+        Act::Reset => room,
         Act::Leave => true,
         Act::Close => client == 0,
-        _ => room,
     }
 }
 
@@ -150,8 +166,13 @@ fn may_do(log: &Log, client: u32, act: &Act) -> bool
 fn may_come(core: &Core, entry: &Entry) -> bool
     ensures { IsTrue result → Allows core.now entry.now }
 {
-    let there = matches!(core.parts.clients.get(entry.client as usize), Some(true));
-    there && core.log.closed.is_none() && may_do(&core.log, entry.client, &entry.act)
+    let Some(true) = core.parts.clients.get(entry.client as usize) else {
+        return false;
+    };
+    if core.log.closed.is_some() {
+        return false;
+    }
+    may_do(&core.log, entry.client, &entry.act)
 }
 
 /// The answer to a client's act.
