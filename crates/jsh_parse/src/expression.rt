@@ -9,12 +9,10 @@ use crate::error::ParseError;
 use crate::input::{Input, assignment_at, colon, deeper, operator_at, right_paren, sees_question};
 use crate::leaves::{is_cast, is_step, is_target, type_use};
 use crate::marks::is_left_paren;
-use crate::nodes::{
-    add, assignment, choice, conversion, instance_of, joined, prefixed, stepped, with_operations,
-};
+use crate::nodes::{assignment, choice, conversion, prefixed, stepped, with_more};
 use crate::operators::{LEVELS, postfix_operator, unary_operator};
 use crate::path::path;
-use jsh_tree::{Boxed, Expr, Operation, Seq, Token, UnaryOperator};
+use jsh_tree::{BinaryOperator, Boxed, Expr, Operation, Seq, Token, UnaryOperator};
 
 #[cycle(parser)]
 pub fn expr(input: &Input, at: usize, room: u32) -> Result<(Boxed<Expr>, usize), ParseError>
@@ -74,67 +72,91 @@ pub fn level(
 {
     let (mut tree, mut end) = unary(input, at, room)?;
     for lower in 0..height {
-        let (rest, behind) = operations(input, end, room, lower)?;
-        tree = with_operations(input.alloc, tree, rest)?;
+        let (whole, behind) = operations(input, tree, end, room, lower)?;
+        tree = whole;
         end = behind;
     }
     Ok((tree, end))
 }
 
-/// The operators between operands that are so many levels below those of all levels, with their right
-/// operands.
+/// A value with the operators behind it that are so many levels below those of all levels, and with
+/// their right operands. What was read so far is put into the tree at once, so that one pointer stands
+/// for it in the frame.
 #[cycle(parser)]
 fn operations(
     input: &Input,
+    first: Boxed<Expr>,
     from: usize,
     room: u32,
     height: u32,
-) -> Result<(Seq<Operation>, usize), ParseError>
+) -> Result<(Boxed<Expr>, usize), ParseError>
     requires { height < 10 }
-    ensures { Reads input.now.tokens.now from (read.operations_at input.now.text.now room height (drop from input.now.tokens.now)) result }
+    ensures { Reads input.now.tokens.now from (read.operated_at input.now.text.now room height first (drop from input.now.tokens.now)) result }
 {
-    let mut rest = Vec::new(input.alloc);
+    let mut tree = first;
+    let mut begun = false;
     let mut at = from;
     let most = input.left(from) + 1;
     for _turn in 0..most {
-        let (further, behind) = operation(input, at, room, height)?;
-        at = behind;
-        let Some(further) = further else {
-            return Ok((Seq::from_vec(rest), at));
+        let Some(found) = operator_at(input, at, height) else {
+            return Ok((tree, at));
         };
-        add(&mut rest, further)?;
+        let (whole, behind) = match found {
+            Some(operator) => joined(input, tree, begun, operator, level(input, at + 1, room, height))?,
+            None => tested(input, tree, begun, at + 1)?,
+        };
+        tree = whole;
+        begun = true;
+        at = behind;
     }
+    refused(input, tree, at)
+}
+
+/// The refusal of the token at a place, and the end of the value in front of it.
+#[inline(never)]
+fn refused(
+    input: &Input,
+    _value: Boxed<Expr>,
+    at: usize,
+) -> Result<(Boxed<Expr>, usize), ParseError>
+    ensures { IfErr result (λ e. IsWanted e) × (IfOk result (λ _. ⊥)) }
+{
     Err(input.refuse(at, None))
 }
 
-/// One such operator with its right operand, where it stands there.
-#[cycle(parser)]
-fn operation(
+/// A value with an operator behind it and the operand that was read for it. Where that was refused, the
+/// value ends here and not in the frame of the reader.
+#[inline(never)]
+fn joined(
     input: &Input,
-    at: usize,
-    room: u32,
-    height: u32,
-) -> Result<(Option<Boxed<Operation>>, usize), ParseError>
-    requires { height < 10 }
-    ensures { Reads input.now.tokens.now at (read.operation_at input.now.text.now room height (drop at input.now.tokens.now)) result }
+    value: Boxed<Expr>,
+    begun: bool,
+    operator: BinaryOperator,
+    read: Result<(Boxed<Expr>, usize), ParseError>,
+) -> Result<(Boxed<Expr>, usize), ParseError>
+    ensures { MatchResult read (λ found. IfOk result (λ whole. (whole.0 ≡ reader.with_more value begun (operation.Operator operator found.0)) × (whole.1 ≡ found.1))
+        × IfErr result (λ e. e ≡ NoMemory)) (λ e. result ≡ Err e) }
 {
-    let Some(found) = operator_at(input, at, height) else {
-        return Ok((None, at));
+    let (operand, end) = read?;
+    let further = Operation::Operator {
+        operator,
+        operand: operand.into_inner(),
     };
-    let Some(operator) = found else {
-        return tested(input, at + 1);
-    };
-    let (operand, end) = level(input, at + 1, room, height)?;
-    Ok((Some(joined(input.alloc, operator, operand)?), end))
+    Ok((with_more(input.alloc, value, begun, further)?, end))
 }
 
-/// What the value so far may be an instance of, from behind the word.
+/// A value with the type behind it that it may be an instance of, from behind the word.
 #[inline(never)]
-fn tested(input: &Input, at: usize) -> Result<(Option<Boxed<Operation>>, usize), ParseError>
-    ensures { Reads input.now.tokens.now at (read.tested input.now.text.now (drop at input.now.tokens.now)) result }
+fn tested(
+    input: &Input,
+    value: Boxed<Expr>,
+    begun: bool,
+    at: usize,
+) -> Result<(Boxed<Expr>, usize), ParseError>
+    ensures { Reads input.now.tokens.now at (read.tested input.now.text.now value begun (drop at input.now.tokens.now)) result }
 {
     let (target, end) = type_use(input, at)?;
-    Ok((Some(instance_of(input.alloc, target)?), end))
+    Ok((with_more(input.alloc, value, begun, Operation::InstanceOf(target))?, end))
 }
 
 #[cycle(parser)]

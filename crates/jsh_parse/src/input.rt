@@ -59,6 +59,7 @@ impl<'a> Input<'a> {
     }
 
     #[tactic(auto, using(crate::proofs::Tokens::found_at, crate::proofs::Tokens::none_at))]
+    #[inline(never)]
     pub fn token(&self, at: usize) -> Option<Token>
         ensures found { MatchOption result (drop at self.now.tokens.now ≡ []) (λ t. drop at self.now.tokens.now ≡ t ∷ drop (at + 1) self.now.tokens.now) }
         ensures inside { IfSome result (λ t. at < length self.now.tokens.now) }
@@ -68,6 +69,7 @@ impl<'a> Input<'a> {
     }
 
     /// How many tokens stand from a place on.
+    #[inline(never)]
     pub fn left(&self, at: usize) -> usize
         ensures { result ≡ length (drop at self.now.tokens.now) }
     {
@@ -85,6 +87,7 @@ impl<'a> Input<'a> {
     }
 
     /// The refusal of the token at a place.
+    #[inline(never)]
     pub fn refuse(&self, at: usize, wanted: Option<TokenKind>) -> ParseError
         ensures { IsWanted result }
     {
@@ -153,6 +156,7 @@ pub fn assignment_at(input: &Input, at: usize) -> Option<Option<BinaryOperator>>
 
 /// The operator that the token at a place is, where it stands between operands of that height: `None`
 /// for `instanceof`.
+#[inline(never)]
 pub fn operator_at(input: &Input, at: usize, height: u32) -> Option<Option<BinaryOperator>>
     requires { height < 10 }
     ensures value { result ≡ read.operator_at height (drop at input.now.tokens.now) }

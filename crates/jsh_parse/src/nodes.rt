@@ -46,18 +46,43 @@ pub fn choice(
     Boxed::new(alloc, Expr::Conditional { condition, yes, no })
 }
 
-/// An operand with the operators of a level behind it, where there are any.
+/// A value with one operation more behind it: in the node that it is, where operations of its level have
+/// been put there before, and else in a node around it.
 #[inline(never)]
-pub fn with_operations(
+pub fn with_more(
+    alloc: Global,
+    value: Boxed<Expr>,
+    begun: bool,
+    further: Operation,
+) -> Result<Boxed<Expr>, AllocError>
+    ensures { IfOk result (λ node. node ≡ reader.with_more value begun further) }
+{
+    let mut rest = Vec::new(alloc);
+    if !begun {
+        rest.push(further)?;
+        return binary(alloc, value, rest);
+    }
+    match value.into_inner() {
+        Expr::Binary { first, rest: before } => {
+            let mut rest = before.into_vec();
+            rest.push(further)?;
+            binary(alloc, first, rest)
+        }
+        other => {
+            rest.push(further)?;
+            binary(alloc, Boxed::new(alloc, other)?, rest)
+        }
+    }
+}
+
+fn binary(
     alloc: Global,
     first: Boxed<Expr>,
-    rest: Seq<Operation>,
+    rest: Vec<Operation>,
 ) -> Result<Boxed<Expr>, AllocError>
-    ensures { IfOk result (λ node. node ≡ reader.with_operations first rest) }
+    ensures { IfOk result (λ node. node ≡ tree.Binary first rest.items) }
 {
-    if rest.is_empty() {
-        return Ok(first);
-    }
+    let rest = Seq::from_vec(rest);
     Boxed::new(alloc, Expr::Binary { first, rest })
 }
 
@@ -143,25 +168,6 @@ pub fn add<T: Drop>(items: &mut Vec<T>, further: Boxed<T>) -> Result<(), AllocEr
 {
     items.push(further.into_inner())?;
     Ok(())
-}
-
-#[inline(never)]
-pub fn joined(
-    alloc: Global,
-    operator: BinaryOperator,
-    operand: Boxed<Expr>,
-) -> Result<Boxed<Operation>, AllocError>
-    ensures { IfOk result (λ node. node ≡ operation.Operator operator operand) }
-{
-    let operand = operand.into_inner();
-    Boxed::new(alloc, Operation::Operator { operator, operand })
-}
-
-#[inline(never)]
-pub fn instance_of(alloc: Global, target: TypeUse) -> Result<Boxed<Operation>, AllocError>
-    ensures { IfOk result (λ node. node ≡ operation.InstanceOf target) }
-{
-    Boxed::new(alloc, Operation::InstanceOf(target))
 }
 
 #[inline(never)]
