@@ -77,10 +77,10 @@ fn may_do(log: &Log, client: u32, act: &Act) -> bool
 }
 
 /// Whether a client was numbered and hasn't left.
-fn is_present(clients: &[bool], client: u32) -> bool
-    ensures { IsTrue result ↔ (slice_get clients.now client ≡ Some true) }
+fn is_present(parts: &Parts, client: u32) -> bool
+    ensures { IsTrue result ↔ (slice_get parts.now.clients.items client ≡ Some true) }
 {
-    match clients.get(client as usize) {
+    match parts.clients.get(client as usize) {
         Some(there) => *there,
         None => false,
     }
@@ -91,7 +91,7 @@ pub fn is_allowed(log: &Log, parts: &Parts, entry: &Entry) -> bool
     requires { StandsFor log.now parts.now }
     ensures { IsTrue result ↔ Allows log.now.history.items entry.now }
 {
-    is_present(parts.clients.as_slice(), entry.client)
+    is_present(parts, entry.client)
         && log.closed.is_none()
         && may_do(log, entry.client, &entry.act)
 }
