@@ -91,7 +91,5 @@ pub fn is_allowed(log: &Log, parts: &Parts, entry: &Entry) -> bool
     requires { StandsFor log.now parts.now }
     ensures { IsTrue result ↔ Allows log.now.history.items entry.now }
 {
-    is_present(parts, entry.client)
-        && log.closed.is_none()
-        && may_do(log, entry.client, &entry.act)
+    is_present(parts, entry.client) && log.closed.is_none() && may_do(log, entry.client, &entry.act)
 }

@@ -4,7 +4,7 @@ ghost use Rattle.std.specs.Prelude.{◌≡◌, ◌<◌};
 
 use crate::engine::Core;
 use jsh_snippet::{
-    Act, Collected, Entry, Fate, Line, LimitKind, Outcome, Question, Refusal, Reply, ReplyBody,
+    Act, Collected, Entry, Fate, LimitKind, Line, Outcome, Question, Refusal, Reply, ReplyBody,
     Target,
 };
 use jsh_steps::Steps;
