@@ -125,3 +125,6 @@ fn add_one(place: usize, marks: &mut Vec<bool>, waiting: &mut Vec<usize>) -> Res
     }
     Ok(())
 }
+
+#[cfg(test)]
+mod tests;

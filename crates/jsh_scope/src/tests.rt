@@ -1,9 +1,12 @@
 use crate::*;
 use jsh_library::table;
+use jsh_text::NoMemory;
 use jsh_tree::{
-    Field, Header, Key, Library, Link, Member, Name, Query, Seq, TypeWritten,
+    Field, Header, Key, Library, LibraryMethod, LibraryType, Link, Member, Name, Query, Seq,
+    Signature, TypeWritten,
 };
 use std::alloc::Global;
+use std::process::Abort;
 use std::test::Fail;
 
 fn name(alloc: Global, text: &str) -> Result<Name, Fail> {
@@ -115,24 +118,26 @@ fn var(alloc: Global, id: u32, text: &str) -> Result<Member, Fail> {
     })
 }
 
-fn method_key(alloc: Global, text: &str) -> Result<Key, Fail> {
+fn one_int(alloc: Global) -> Result<Seq<TypeWritten>, Fail> {
     let mut params = Vec::new(alloc);
     params.push(written(alloc, "int")?)?;
+    Ok(Seq::from_vec(params))
+}
+
+fn method_key(alloc: Global, text: &str) -> Result<Key, Fail> {
     Ok(Key::OfMethod {
         name: name(alloc, text)?,
-        params: Seq::from_vec(params),
+        params: one_int(alloc)?,
     })
 }
 
 fn method(alloc: Global, id: u32, text: &str) -> Result<Member, Fail> {
-    let mut params = Vec::new(alloc);
-    params.push(written(alloc, "int")?)?;
     Ok(Member {
         id,
         key: method_key(alloc, text)?,
         header: Header::OfMethod {
             result: Some(written(alloc, "int")?),
-            params: Seq::from_vec(params),
+            params: one_int(alloc)?,
         },
         link: Some(Link {
             key: method_key(alloc, text)?,
@@ -153,13 +158,18 @@ fn member(alloc: Global, id: u32, row: Row) -> Result<Member, Fail> {
     }
 }
 
-fn env(alloc: Global, rows: &[Row], library: &Library) -> Result<Env, Fail> {
+fn members(alloc: Global, rows: &[Row]) -> Result<Vec<Member>, Fail> {
     let mut members = Vec::new(alloc);
     let mut id = 0u32;
     for row in rows {
         id = id.wrapping_add(1);
         members.push(member(alloc, id, *row)?)?;
     }
+    Ok(members)
+}
+
+fn env(alloc: Global, rows: &[Row], library: &Library) -> Result<Env, Fail> {
+    let members = members(alloc, rows)?;
     Ok(Env::new(alloc, members.as_slice(), library)?)
 }
 
@@ -170,13 +180,20 @@ enum Said {
     NotVisible,
     Library,
     Nothing,
+    Wrong,
 }
 
 fn said_of_type(env: &Env, asked: &Name) -> Said {
     match env.type_named(asked) {
         Some(TypeAnswer::Live(_)) => Said::Live,
         Some(TypeAnswer::NotVisible) => Said::NotVisible,
-        Some(TypeAnswer::Library(_)) => Said::Library,
+        Some(TypeAnswer::Library(answer)) => {
+            if answer.found().name == *asked {
+                Said::Library
+            } else {
+                Said::Wrong
+            }
+        }
         None => Said::Nothing,
     }
 }
@@ -192,25 +209,32 @@ const TYPES: [(&[Row], &str, Said); 9] = [
     (&[Row::Import(ATOMIC)], "AtomicLong", Said::Nothing),
     (&[Row::ImportAll(ATOMICS)], "AtomicLong", Said::Library),
     (
-        &[Row::Import(ATOMIC), Row::Class("AtomicInteger", "int", true)],
+        &[
+            Row::Import(ATOMIC),
+            Row::Class("AtomicInteger", "int", true),
+        ],
         "AtomicInteger",
         Said::Live,
     ),
     (&[Row::Class("A", "B", false)], "A", Said::NotVisible),
     (
-        &[Row::Import(ATOMIC), Row::Class("AtomicInteger", "B", false)],
+        &[
+            Row::Import(ATOMIC),
+            Row::Class("AtomicInteger", "B", false),
+        ],
         "AtomicInteger",
         Said::NotVisible,
     ),
 ];
 
-fn type_row(
-    rt: &HostRuntime,
+fn check_type(
+    rt: &impl Abort,
+    alloc: Global,
     library: &Library,
     row: (&[Row], &str, Said),
 ) -> Result<(), Fail> {
-    let env = env(rt.alloc(), row.0, library)?;
-    let asked = name(rt.alloc(), row.1)?;
+    let env = env(alloc, row.0, library)?;
+    let asked = name(alloc, row.1)?;
     assert_eq!(rt; said_of_type(&env, &asked), row.2);
     Ok(())
 }
@@ -219,20 +243,20 @@ fn type_row(
 fn types_are_found(rt: HostRuntime) -> Result<(), Fail> {
     let library = table(rt.alloc())?;
     for row in TYPES {
-        type_row(&rt, &library, row)?;
+        check_type(&rt, rt.alloc(), &library, row)?;
     }
     Ok(())
 }
 
-/// What a variable's name is said to be: the name of the type that has it, where it is the library's.
+/// What a variable's name is said to be, where the library's type with this name is to have it.
 fn said_of_variable(env: &Env, asked: &Name, of: &str) -> Said {
     match env.var_named(asked) {
         Some(VarAnswer::Live(_)) => Said::Live,
-        Some(VarAnswer::Library(found)) => {
-            if found.of().name.as_str() == of {
+        Some(VarAnswer::Library(answer)) => {
+            if answer.of().name.as_str() == of && answer.constant().name == *asked {
                 Said::Library
             } else {
-                Said::NotVisible
+                Said::Wrong
             }
         }
         None => Said::Nothing,
@@ -244,23 +268,40 @@ const INTEGER_MAX: &[&str] = &["java", "lang", "Integer", "MAX_VALUE"];
 const LONG: &[&str] = &["java", "lang", "Long"];
 const LONG_MAX: &[&str] = &["java", "lang", "Long", "MAX_VALUE"];
 
-/// The snippets, and the type that `MAX_VALUE` is of.
+/// The snippets, the type that `MAX_VALUE` is of, and what it is said to be.
 const VARIABLES: [(&[Row], &str, Said); 6] = [
     (&[], "", Said::Nothing),
-    (&[Row::Static(INTEGER_MAX), Row::Static(LONG_MAX)], "Long", Said::Library),
-    (&[Row::Static(LONG_MAX), Row::StaticAll(INTEGER)], "Long", Said::Library),
-    (&[Row::StaticAll(LONG), Row::StaticAll(INTEGER)], "Integer", Said::Library),
-    (&[Row::Var("MAX_VALUE"), Row::Static(LONG_MAX)], "", Said::Live),
+    (
+        &[Row::Static(INTEGER_MAX), Row::Static(LONG_MAX)],
+        "Long",
+        Said::Library,
+    ),
+    (
+        &[Row::Static(LONG_MAX), Row::StaticAll(INTEGER)],
+        "Long",
+        Said::Library,
+    ),
+    (
+        &[Row::StaticAll(LONG), Row::StaticAll(INTEGER)],
+        "Integer",
+        Said::Library,
+    ),
+    (
+        &[Row::Var("MAX_VALUE"), Row::Static(LONG_MAX)],
+        "",
+        Said::Live,
+    ),
     (&[Row::Static(INTEGER)], "", Said::Nothing),
 ];
 
-fn variable_row(
-    rt: &HostRuntime,
+fn check_variable(
+    rt: &impl Abort,
+    alloc: Global,
     library: &Library,
     row: (&[Row], &str, Said),
 ) -> Result<(), Fail> {
-    let env = env(rt.alloc(), row.0, library)?;
-    let asked = name(rt.alloc(), "MAX_VALUE")?;
+    let env = env(alloc, row.0, library)?;
+    let asked = name(alloc, "MAX_VALUE")?;
     assert_eq!(rt; said_of_variable(&env, &asked, row.1), row.2);
     Ok(())
 }
@@ -269,30 +310,71 @@ fn variable_row(
 fn variables_are_found(rt: HostRuntime) -> Result<(), Fail> {
     let library = table(rt.alloc())?;
     for row in VARIABLES {
-        variable_row(&rt, &library, row)?;
+        check_variable(&rt, rt.alloc(), &library, row)?;
     }
     Ok(())
 }
 
 const MATH: &[&str] = &["java", "lang", "Math"];
 const MATH_ABS: &[&str] = &["java", "lang", "Math", "abs"];
+const STRICT_MATH: &[&str] = &["java", "lang", "StrictMath"];
 
-/// The snippets, the name, and how many methods have it.
-const METHODS: [(&[Row], &str, usize); 7] = [
-    (&[Row::Method("m")], "m", 1),
-    (&[], "m", 0),
-    (&[], "abs", 0),
-    (&[Row::Static(MATH_ABS)], "abs", 2),
-    (&[Row::StaticAll(MATH)], "abs", 2),
-    (&[Row::Static(MATH_ABS), Row::Method("abs")], "abs", 1),
-    (&[Row::StaticAll(INTEGER), Row::StaticAll(LONG)], "toString", 2),
+/// The snippets, the name, and whose each answer is: the library's type, or none for a live method.
+const METHODS: [(&[Row], &str, &[&str]); 7] = [
+    (&[Row::Method("m")], "m", &[""]),
+    (&[], "m", &[]),
+    (&[], "abs", &[]),
+    (&[Row::Static(MATH_ABS)], "abs", &["Math", "Math"]),
+    (&[Row::StaticAll(MATH)], "abs", &["Math", "Math"]),
+    (&[Row::Static(MATH_ABS), Row::Method("abs")], "abs", &[""]),
+    (
+        &[Row::StaticAll(INTEGER), Row::StaticAll(LONG)],
+        "toString",
+        &["Integer", "Long"],
+    ),
 ];
 
-fn method_row(rt: &HostRuntime, library: &Library, row: (&[Row], &str, usize)) -> Result<(), Fail> {
-    let env = env(rt.alloc(), row.0, library)?;
-    let asked = name(rt.alloc(), row.1)?;
-    let found = env.methods_named(rt.alloc(), &asked)?;
-    assert_eq!(rt; found.len(), row.2);
+/// The same by a library in which `Math` and `StrictMath` have one `abs` each.
+const TWO_ABS: [(&[Row], &str, &[&str]); 3] = [
+    (
+        &[Row::StaticAll(MATH), Row::StaticAll(STRICT_MATH)],
+        "abs",
+        &["Math", "StrictMath"],
+    ),
+    (
+        &[Row::StaticAll(STRICT_MATH), Row::StaticAll(MATH)],
+        "abs",
+        &["StrictMath", "Math"],
+    ),
+    (
+        &[Row::StaticAll(STRICT_MATH), Row::Static(MATH_ABS)],
+        "abs",
+        &["Math"],
+    ),
+];
+
+fn is_of(answer: &MethodAnswer, asked: &Name, of: &str) -> bool {
+    match answer {
+        MethodAnswer::Live(_) => of.is_empty(),
+        MethodAnswer::Library(answer) => {
+            answer.of().name.as_str() == of && answer.method().signature.name == *asked
+        }
+    }
+}
+
+fn check_methods(
+    rt: &impl Abort,
+    alloc: Global,
+    library: &Library,
+    row: (&[Row], &str, &[&'static str]),
+) -> Result<(), Fail> {
+    let env = env(alloc, row.0, library)?;
+    let asked = name(alloc, row.1)?;
+    let found = env.methods_named(alloc, &asked)?;
+    assert_eq!(rt; found.len(), row.2.len());
+    for (answer, of) in found.iter().zip(row.2) {
+        assert!(rt; is_of(answer, &asked, of));
+    }
     Ok(())
 }
 
@@ -300,16 +382,91 @@ fn method_row(rt: &HostRuntime, library: &Library, row: (&[Row], &str, usize)) -
 fn methods_are_found(rt: HostRuntime) -> Result<(), Fail> {
     let library = table(rt.alloc())?;
     for row in METHODS {
-        method_row(&rt, &library, row)?;
+        check_methods(&rt, rt.alloc(), &library, row)?;
     }
     Ok(())
 }
 
-/// The snippets, the type, and how many types its header reaches.
-const REACHED: [(&[Row], &str, usize); 4] = [
-    (&[Row::Class("A", "int", true)], "A", 0),
-    (&[Row::Class("A", "A", true)], "A", 1),
-    (&[Row::Class("A", "B", true), Row::Class("B", "A", true)], "A", 2),
+fn abs(alloc: Global) -> Result<LibraryMethod, Fail> {
+    Ok(LibraryMethod {
+        is_static: true,
+        signature: Signature {
+            name: name(alloc, "abs")?,
+            result: Some(written(alloc, "int")?),
+            params: one_int(alloc)?,
+            is_abstract: false,
+        },
+    })
+}
+
+fn type_with_abs(alloc: Global, text: &str) -> Result<LibraryType, Fail> {
+    let mut methods = Vec::new(alloc);
+    methods.push(abs(alloc)?)?;
+    Ok(LibraryType {
+        package: name(alloc, "java.lang")?,
+        name: name(alloc, text)?,
+        is_interface: false,
+        is_final: true,
+        is_abstract: false,
+        extends: None,
+        implements: Seq::new(alloc),
+        constructors: Seq::new(alloc),
+        methods: Seq::from_vec(methods),
+        constants: Seq::new(alloc),
+    })
+}
+
+fn library_with_two_abs(alloc: Global) -> Result<Library, Fail> {
+    let mut types = Vec::new(alloc);
+    types.push(type_with_abs(alloc, "Math")?)?;
+    types.push(type_with_abs(alloc, "StrictMath")?)?;
+    Ok(Library {
+        packages: Seq::new(alloc),
+        types: Seq::from_vec(types),
+        out: Seq::new(alloc),
+    })
+}
+
+#[test]
+fn methods_of_several_imports_are_found(rt: HostRuntime) -> Result<(), Fail> {
+    let library = library_with_two_abs(rt.alloc())?;
+    for row in TWO_ABS {
+        check_methods(&rt, rt.alloc(), &library, row)?;
+    }
+    Ok(())
+}
+
+/// Whether there is one answer, the live method that the member is.
+fn is_member(found: &[MethodAnswer], member: &Member) -> bool {
+    match found {
+        [MethodAnswer::Live(seen)] => match &member.link {
+            Some(link) => *seen.link() == *link && *seen.header() == member.header,
+            None => false,
+        },
+        _ => false,
+    }
+}
+
+/// `int m(int a) { return a; }`
+#[test]
+fn a_method_has_its_link_and_header(rt: HostRuntime) -> Result<(), Fail> {
+    let alloc = rt.alloc();
+    let library = table(alloc)?;
+    let env = env(alloc, &[Row::Method("m")], &library)?;
+    let found = env.methods_named(alloc, &name(alloc, "m")?)?;
+    assert!(rt; is_member(found.as_slice(), &method(alloc, 1, "m")?));
+    Ok(())
+}
+
+/// The snippets, the type, and the ids of the types that its header reaches.
+const REACHED: [(&[Row], &str, &[u64]); 5] = [
+    (&[Row::Class("A", "int", true)], "A", &[]),
+    (&[Row::Class("A", "A", true)], "A", &[1]),
+    (
+        &[Row::Class("A", "B", true), Row::Class("B", "A", true)],
+        "A",
+        &[1, 2],
+    ),
     (
         &[
             Row::Class("A", "B", true),
@@ -318,18 +475,40 @@ const REACHED: [(&[Row], &str, usize); 4] = [
             Row::Class("D", "A", true),
         ],
         "A",
-        2,
+        &[2, 3],
+    ),
+    (
+        &[
+            Row::Class("A", "B", true),
+            Row::Class("B", "C", false),
+            Row::Class("C", "int", true),
+        ],
+        "A",
+        &[],
     ),
 ];
 
-fn reached_row(rt: &HostRuntime, library: &Library, row: (&[Row], &str, usize)) -> Result<(), Fail> {
-    let env = env(rt.alloc(), row.0, library)?;
-    let asked = name(rt.alloc(), row.1)?;
-    let mut count = None;
-    if let Some(TypeAnswer::Live(seen)) = env.type_named(&asked) {
-        count = Some(seen.reached(rt.alloc())?.len());
+/// The generations of the links that stand in the answer, which are the ids of the members.
+fn reached_ids(alloc: Global, answer: &Option<TypeAnswer>) -> Result<Vec<u64>, Fail> {
+    let mut ids = Vec::new(alloc);
+    if let Some(TypeAnswer::Live(seen)) = answer {
+        for reached in &seen.reached(alloc)? {
+            ids.push(reached.link().generation)?;
+        }
     }
-    assert_eq!(rt; count, Some(row.2));
+    Ok(ids)
+}
+
+fn check_reached(
+    rt: &impl Abort,
+    alloc: Global,
+    library: &Library,
+    row: (&[Row], &str, &[u64]),
+) -> Result<(), Fail> {
+    let env = env(alloc, row.0, library)?;
+    let asked = name(alloc, row.1)?;
+    let ids = reached_ids(alloc, &env.type_named(&asked))?;
+    assert_eq!(rt; ids.as_slice(), row.2);
     Ok(())
 }
 
@@ -337,26 +516,85 @@ fn reached_row(rt: &HostRuntime, library: &Library, row: (&[Row], &str, usize)) 
 fn types_are_reached_once(rt: HostRuntime) -> Result<(), Fail> {
     let library = table(rt.alloc())?;
     for row in REACHED {
-        reached_row(&rt, &library, row)?;
+        check_reached(&rt, rt.alloc(), &library, row)?;
     }
+    Ok(())
+}
+
+/// Whether the first type that is reached has this header.
+fn reaches_first(
+    alloc: Global,
+    answer: &Option<TypeAnswer>,
+    header: &Header,
+) -> Result<bool, Fail> {
+    if let Some(TypeAnswer::Live(seen)) = answer {
+        let reached = seen.reached(alloc)?;
+        return Ok(match reached.first() {
+            Some(first) => *first.header() == *header,
+            None => false,
+        });
+    }
+    Ok(false)
+}
+
+#[test]
+fn a_reached_type_has_its_header(rt: HostRuntime) -> Result<(), Fail> {
+    let alloc = rt.alloc();
+    let library = table(alloc)?;
+    let rows = &[Row::Class("A", "B", true), Row::Class("B", "int", true)];
+    let env = env(alloc, rows, &library)?;
+    let answer = env.type_named(&name(alloc, "A")?);
+    assert!(rt; reaches_first(alloc, &answer, &class_header(alloc, "B", "int")?)?);
+    Ok(())
+}
+
+#[test]
+fn mentioned_types_have_places(rt: HostRuntime) -> Result<(), Fail> {
+    let alloc = rt.alloc();
+    let members = members(
+        alloc,
+        &[Row::Class("A", "B", true), Row::Class("B", "int", true)],
+    )?;
+    let places = mentioned_types(alloc, members.as_slice())?;
+    assert_eq!(rt; places.len(), 2);
+    assert!(rt; places[0].as_slice() == [1].as_slice());
+    assert!(rt; places[1].is_empty());
     Ok(())
 }
 
 fn footprint(alloc: Global, env: &Env) -> Result<Footprint, Fail> {
     let mut asked = Asked::new(alloc, env);
-    let string = asked.type_named(&name(alloc, "String")?)?.is_some();
-    let variable = asked.var_named(&name(alloc, "x")?)?.is_some();
-    let methods = asked.methods_named(alloc, &name(alloc, "m")?)?.is_empty();
-    let _ = (string, variable, methods);
+    let _ = asked.type_named(&name(alloc, "String")?)?;
+    let _ = asked.var_named(&name(alloc, "x")?)?;
+    let _ = asked.methods_named(alloc, &name(alloc, "m")?)?;
+    let _ = asked.type_named(&name(alloc, "A")?)?;
     Ok(asked.into_footprint())
+}
+
+fn queries(alloc: Global) -> Result<Seq<Query>, Fail> {
+    let mut queries = Vec::new(alloc);
+    queries.push(Query::TypeNamed(name(alloc, "String")?))?;
+    queries.push(Query::VarNamed(name(alloc, "x")?))?;
+    queries.push(Query::MethodsNamed(name(alloc, "m")?))?;
+    queries.push(Query::TypeNamed(name(alloc, "A")?))?;
+    Ok(Seq::from_vec(queries))
 }
 
 #[test]
 fn all_queries_are_kept(rt: HostRuntime) -> Result<(), Fail> {
     let library = table(rt.alloc())?;
     let env = env(rt.alloc(), &[], &library)?;
-    let kept = footprint(rt.alloc(), &env)?;
-    assert_eq!(rt; kept.len(), 3);
-    assert!(rt; kept.get(1) == Some(&Query::VarNamed(name(rt.alloc(), "x")?)));
+    assert!(rt; footprint(rt.alloc(), &env)? == queries(rt.alloc())?);
     Ok(())
+}
+
+#[test]
+fn want_of_memory_is_an_error(rt: HostRuntime) {
+    assert!(rt; matches!(AttrError::from(NoMemory), AttrError::NoMemory));
+}
+
+#[test]
+fn laws_are_called() {
+    readers_agree::<u32>();
+    answers_stay();
 }
