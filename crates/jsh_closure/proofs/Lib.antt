@@ -1,0 +1,5 @@
+pub mod Law
+pub mod Adding
+pub mod Searching
+pub mod Reversing
+pub mod Ranges
