@@ -433,13 +433,20 @@ fn methods_of_several_imports_are_found(rt: HostRuntime) -> Result<(), Fail> {
     Ok(())
 }
 
-/// Whether there is one answer, the live method that the member is.
-fn is_member(found: &[MethodAnswer], member: &Member) -> bool {
-    match found {
-        [MethodAnswer::Live(seen)] => match &member.link {
+fn is_live(answer: &MethodAnswer, member: &Member) -> bool {
+    match answer {
+        MethodAnswer::Live(seen) => match &member.link {
             Some(link) => *seen.link() == *link && *seen.header() == member.header,
             None => false,
         },
+        MethodAnswer::Library(_) => false,
+    }
+}
+
+/// Whether there is one answer, the live method that the member is.
+fn is_member(found: &[MethodAnswer], member: &Member) -> bool {
+    match found {
+        [answer] => is_live(answer, member),
         _ => false,
     }
 }
