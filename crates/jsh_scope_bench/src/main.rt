@@ -99,7 +99,10 @@ fn environment(alloc: Global, count: u32) -> Result<Env, NoMemory> {
 fn is_found(alloc: Global, env: &Env, number: u32) -> Result<bool, NoMemory> {
     match number % 3 {
         0 => Ok(env.var_named(&name(alloc, "v", number)?).is_some()),
-        1 => Ok(!env.methods_named(alloc, &name(alloc, "f", number)?)?.is_empty()),
+        1 => Ok(
+            !env.methods_named(alloc, &name(alloc, "f", number)?)?
+                .is_empty(),
+        ),
         _ => Ok(env.type_named(&name(alloc, "C", number)?).is_some()),
     }
 }
