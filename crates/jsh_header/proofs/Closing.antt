@@ -1,0 +1,35 @@
+-- A search against mentions gives the smallest set of members that holds the first ones and each one whose header mentions a type of it.
+use Rattle.std.proofs.Common.{◌≡◌, ℕ, ◌<◌, Bool, List, length, map, refl, sym, subst, ◌∙◌, ap}
+use Rattle.std.specs.Prelude.{slice_get}
+use Rattle.std.specs.List.{range_with_len, filter}
+use Rattle.std.proofs.lemmas.List.{length-map}
+use Rattle.jsh_tree.specs.declared.library.Member.{Member}
+use Rattle.jsh_closure.specs.Closure.{closure, is_among, has_edge, has_edge_back, marks_back, IsSmallest}
+use Rattle.jsh_closure.proofs.Ranges.{among_filtered}
+use Rattle.jsh_closure.proofs.Reversing.{marks_same, smallest_same}
+use Rattle.jsh_scope.specs.Reached.{places_in, leads}
+use Rattle.jsh_scope.proofs.Reaching.{at_map}
+
+module _ (members : List Member) (p : ℕ → Bool) where
+  abbrev edges : List (List ℕ)
+  edges = map (λ (member : Member). places_in members member.header) members
+
+  abbrev mentioned : ℕ → ℕ → Bool
+  mentioned from to = leads members to from
+
+  count : length edges ≡ length members
+  count = length-map members (λ (member : Member). places_in members member.header)
+
+  edge_same : (i j : ℕ) → has_edge_back edges i j ≡ mentioned i j
+  edge_same i j = ap (λ (places : List ℕ). is_among places i) (at_map members members j)
+
+  pub closing : marks_back (filter p (range_with_len 0 (length members))) edges ≡ map (closure (length members) p (λ from to. leads members to from)) (range_with_len 0 (length members))
+  closing =
+      ap (λ (n : ℕ). map (closure n (is_among (filter p (range_with_len 0 (length members)))) (has_edge_back edges)) (range_with_len 0 n)) count
+      ∙ marks_same (length members) (is_among (filter p (range_with_len 0 (length members)))) p (has_edge_back edges) mentioned (λ i below. among_filtered p (length members) i below) (λ i j i_below j_below. edge_same i j)
+
+  pub closing_smallest : (set : ℕ → Bool) → IsSmallest (length edges) (is_among (filter p (range_with_len 0 (length members)))) (has_edge_back edges) set
+      → IsSmallest (length members) p (λ from to. leads members to from) set
+  closing_smallest set smallest =
+      smallest_same (length members) (is_among (filter p (range_with_len 0 (length members)))) p (has_edge_back edges) mentioned (λ i below. among_filtered p (length members) i below) (λ i j i_below j_below. edge_same i j) set
+          (subst (λ (n : ℕ). IsSmallest n (is_among (filter p (range_with_len 0 (length members)))) (has_edge_back edges) set) count smallest)
