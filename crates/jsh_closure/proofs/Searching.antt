@@ -104,7 +104,7 @@ module _ (first : List ℕ) (edges : List (List ℕ)) where
       follows from to below apart next (inl held) _ = old from to below apart next held (cases_eq from place)
       follows from to below apart next (inr new) held = absurd (both_ways _ apart (adds.added from held new))
 
-  same_bool : (a b : Bool) → (a ≡ true → b ≡ true) → (b ≡ true → a ≡ true) → a ≡ b
+  pub same_bool : (a b : Bool) → (a ≡ true → b ≡ true) → (b ≡ true → a ≡ true) → a ≡ b
   same_bool true true p q = refl
   same_bool true false p q = absurd (cc (p refl))
   same_bool false true p q = absurd (cc (q refl))
@@ -123,7 +123,7 @@ module _ (first : List ℕ) (edges : List (List ℕ)) where
       at : (i : ℕ) → i < length edges → get_or m i false ≡ closure (length edges) (is_among first) (has_edge edges) i
       at i below = same_bool (get_or m i false) (closure (length edges) (is_among first) (has_edge edges) i) (search.sound i below) (law.contained (λ k. get_or m k false) closed i below)
 
-  read : (place : ℕ) → place < length edges → get_or (marks first edges) place false ≡ closure (length edges) (is_among first) (has_edge edges) place
+  pub read : (place : ℕ) → place < length edges → get_or (marks first edges) place false ≡ closure (length edges) (is_among first) (has_edge edges) place
   read place below = get_or-map-range_with_len set_of 0 (length edges) place place false below (omega arith)
 
   pub is_smallest : IsSmallest (length edges) (is_among first) (has_edge edges) (λ place. get_or (marks first edges) place false)
