@@ -51,6 +51,7 @@ impl Finder {
     }
 }
 
+#[derive(Drop)]
 struct Searched {
     found: Vec<usize>,
     marks: Vec<bool>,

@@ -1,1 +1,4 @@
 pub mod Closing
+pub mod Alike
+pub mod Places
+pub mod Naming

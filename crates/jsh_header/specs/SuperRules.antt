@@ -56,9 +56,9 @@ module _ (types : List Outline) where
   abbrev pub leads_up : ℕ → ℕ → Bool
   leads_up from to = is_among (direct_at (slice_get types from)) to
 
-  -- the types at some places, and all supertypes of these
-  abbrev pub is_above : List ℕ → ℕ → Bool
-  is_above places place = closure (length types) (is_among places) leads_up place
+  -- the places of the types at some places and of all their supertypes
+  abbrev pub above : List ℕ → List ℕ
+  above places = filter (closure (length types) (is_among places) leads_up) (range_with_len 0 (length types))
 
   -- the methods of the types at some places
   abbrev pub methods_of : List ℕ → List Signature
@@ -66,7 +66,7 @@ module _ (types : List Outline) where
 
   -- the methods of all supertypes of the type at a place, those among them that are overridden included
   unfoldable pub inherited : ℕ → List Signature
-  inherited place = methods_of (filter (is_above (direct_at (slice_get types place))) (range_with_len 0 (length types)))
+  inherited place = methods_of (above (direct_at (slice_get types place)))
 
   -- a class, its superclass, the superclass of that, and so on, so many at most
   abbrev pub superclasses : ℕ → Option ℕ → List ℕ
@@ -117,10 +117,10 @@ abbrev pub is_no_interface : Written → Option Outline → Bool
 is_no_interface written None = false
 is_no_interface written (Some type) = not written.is_superclass && not type.interface
 
--- no type is its own supertype (JLS 8.1.4, 9.1.3): the type at the first place isn't the other, and isn't above it
+-- no type is its own supertype (JLS 8.1.4, 9.1.3): the type at the first place is the other or above it
 abbrev pub leads_back : List Outline → ℕ → Option ℕ → Bool
 leads_back types place None = false
-leads_back types place (Some other) = is_above types (other ∷ []) place
+leads_back types place (Some other) = is_among (above types (other ∷ [])) place
 
 -- a type of the library has the name
 abbrev pub is_library_name : List LibraryType → List ℕ → Bool

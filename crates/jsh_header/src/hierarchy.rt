@@ -2,6 +2,7 @@
 
 ghost use Rattle.std.specs.Prelude.{◌≡◌, [], ◌∷◌, ◌++◌, map, slice_get, IfOk, OnOk};
 ghost use Rattle.std.specs.Option.{option_copied};
+ghost use Rattle.jsh_closure.specs.Closure.{is_among};
 ghost use Rattle.jsh_header.specs.Outlines.{outlines};
 ghost use Rattle.jsh_header.specs.SuperRules as spec;
 ghost use Rattle.jsh_header.specs.Tables.{AreAlike, direct_of};
@@ -76,7 +77,7 @@ impl<'a> Hierarchy<'a> {
         inherited(alloc, self.types.as_slice(), &mut self.finder, place)
     }
 
-    /// Whether the type at the one place is that at the other or above it.
+    /// Whether the type at the last place is that at the other or above it.
     pub(crate) fn is_above(
         &mut self,
         alloc: Global,
@@ -84,7 +85,7 @@ impl<'a> Hierarchy<'a> {
         place: usize,
     ) -> Result<bool, NoMemory>
         ensures kept { self.new ≡ self.old }
-        ensures above { IfOk result (λ above. above ≡ spec.is_above (outlines self.old) (other ∷ []) place) }
+        ensures above { IfOk result (λ above. above ≡ is_among (spec.above (outlines self.old) (other ∷ [])) place) }
     {
         is_above(alloc, self.types.as_slice(), &mut self.finder, other, place)
     }
@@ -133,14 +134,16 @@ fn is_above(
 ) -> Result<bool, NoMemory>
     requires { finder.old ≡ map direct_of types.now }
     ensures kept { finder.new ≡ finder.old }
-    ensures above { IfOk result (λ above. above ≡ spec.is_above types.now (other ∷ []) place) }
+    ensures above { IfOk result (λ above. above ≡ is_among (spec.above types.now (other ∷ [])) place) }
 {
-    if place < types.len() {
-        let above = finder.found(alloc, &[other])?;
-        Ok(above.contains(&place))
-    } else {
-        Ok(false)
-    }
+    let above = finder.found(alloc, &[other])?;
+    Ok(is_among(above.as_slice(), place))
+}
+
+fn is_among(places: &[usize], place: usize) -> bool
+    ensures { result ≡ is_among places.now place }
+{
+    places.iter().any(|found| place == *found)
 }
 
 fn direct_at<'t>(types: &'t [Outline<'_>], place: usize) -> &'t [usize]

@@ -129,22 +129,23 @@ fn object_place(library: &Library, behind: usize) -> Option<usize>
     named_place(library, behind, "java.lang", "Object")
 }
 
-fn named_place(library: &Library, behind: usize, package: &str, name: &str) -> Option<usize>
+fn named_place(library: &Library, behind: usize, qualifier: &str, name: &str) -> Option<usize>
     requires { behind + length library.now.types < 2 ^ 64 }
-    ensures { result ≡ spec.place_named library.now behind (is_named package.now name.now) }
+    ensures { result ≡ spec.place_named library.now behind (is_named qualifier.now name.now) }
 {
-    for (place, found) in library.types.as_slice().iter().enumerate() {
-        if is_named(found, package, name) {
+    let types = library.types.as_slice();
+    for (place, found) in types.iter().enumerate() {
+        if is_named(found, qualifier, name) {
             return Some(behind + place);
         }
     }
     None
 }
 
-fn is_named(found: &LibraryType, package: &str, name: &str) -> bool
-    ensures { result ≡ is_named package.now name.now found.now }
+fn is_named(found: &LibraryType, qualifier: &str, name: &str) -> bool
+    ensures { result ≡ is_named qualifier.now name.now found.now }
 {
-    found.package.as_str() == package && found.name.as_str() == name
+    found.package.as_str() == qualifier && found.name.as_str() == name
 }
 
 #[tactic(auto, unfolding(crate::specs::Outlines::library_place))]
@@ -152,7 +153,8 @@ fn library_place(library: &Library, behind: usize, name: &Name) -> Option<usize>
     requires { behind + length library.now.types < 2 ^ 64 }
     ensures { result ≡ spec.library_place library.now behind name.now }
 {
-    for (place, found) in library.types.as_slice().iter().enumerate() {
+    let types = library.types.as_slice();
+    for (place, found) in types.iter().enumerate() {
         if found.name == *name {
             return Some(behind + place);
         }

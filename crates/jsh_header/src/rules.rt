@@ -165,6 +165,7 @@ fn push_at_name(breaches: &mut Vec<Breach>, rule: u8, broken: bool) -> Result<()
 }
 
 /// The first written supertypes at which the first three rules are broken.
+#[derive(Drop)]
 struct Firsts {
     no_superclass: Option<usize>,
     no_interface: Option<usize>,

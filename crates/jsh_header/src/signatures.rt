@@ -65,7 +65,7 @@ pub(crate) fn has_contradiction(own: &[Method<'_>], others: &[Method<'_>]) -> bo
         .any(|method| contradicts_either(own, others, method.signature()))
 }
 
-fn first_of<'a>(methods: &'a [Method<'_>], method: &Signature) -> Option<&'a Method<'a>>
+fn first_of<'t, 'a>(methods: &'t [Method<'a>], method: &Signature) -> Option<&'t Method<'a>>
     ensures { option_copied result ≡ find (spec.same_signature method.now) methods.now }
 {
     methods

@@ -4,4 +4,7 @@ use Rattle.jsh_header.specs.Bad.{is_bad_itself}
 use Rattle.jsh_header.proofs.bad.bad_themselves.Given as goal
 
 abbrev pub invariant-loop-place : goal.invariant-loop-place
-invariant-loop-place l = l.places.items ≡ filter (is_bad_itself l.env l.broken) (range_with_len 0 l.place)
+invariant-loop-place l = record {
+  kept : l.hierarchy ≡ l.initial.hierarchy;
+  found : l.places.items ≡ filter (is_bad_itself l.initial.hierarchy) (range_with_len 0 l.place);
+}

@@ -1,0 +1,34 @@
+-- The first place that passes, and the classes up from one.
+use Rattle.std.proofs.Common.{◌≡◌, ℕ, zero, suc, ◌+◌, ◌-◌, ◌<◌, ◌≤◌, Bool, true, false, cond, List, [], ◌∷◌, ◌++◌, Option, Some, None, length, get_or, drop, refl, sym, ◌∙◌, ap, arith}
+use Rattle.std.proofs.lemmas.List.{at_drop_more, at_drop_all}
+use Rattle.std.specs.Prelude.{slice_get}
+use Rattle.std.specs.List.{position_from}
+use Rattle.jsh_tree.specs.declared.key.Signature.{Signature}
+use Rattle.jsh_header.specs.declared.outlines.Outline.{Outline}
+use Rattle.jsh_header.specs.SuperRules.{methods_at, superclass_at, methods_of, superclasses}
+
+-- the element passes
+pub position_here : {A : Type 0} (p : A → Bool) (xs : List A) (k : ℕ) (x : A) → k < length xs → x ≡ get_or xs k x → p x ≡ true → position_from p k (drop k xs) ≡ Some k
+position_here {A} p xs k x below is passes =
+    at_drop_more (position_from p k) xs k x below
+    ∙ ap (λ (b : Bool). cond b (Some k) (position_from p (k + 1) (drop (k + 1) xs))) (sym (ap p is) ∙ passes)
+
+-- it doesn't
+pub position_later : {A : Type 0} (p : A → Bool) (xs : List A) (k : ℕ) (x : A) → k < length xs → x ≡ get_or xs k x → p x ≡ false → position_from p k (drop k xs) ≡ position_from p (k + 1) (drop (k + 1) xs)
+position_later {A} p xs k x below is fails =
+    at_drop_more (position_from p k) xs k x below
+    ∙ ap (λ (b : Bool). cond b (Some k) (position_from p (k + 1) (drop (k + 1) xs))) (sym (ap p is) ∙ fails)
+
+pub position_none : {A : Type 0} (p : A → Bool) (xs : List A) (k : ℕ) → length xs ≤ k → position_from p k (drop k xs) ≡ None
+position_none p xs k past = at_drop_all (position_from p k) xs k past
+
+pub class_more : (types : List Outline) (n k place : ℕ) → k < n
+    → methods_of types (superclasses types (n - k) (Some place)) ≡ methods_at (slice_get types place) ++ methods_of types (superclasses types (n - (k + 1)) (superclass_at (slice_get types place)))
+class_more types n k place below = ap (λ (m : ℕ). methods_of types (superclasses types m (Some place))) more
+  where
+    more : n - k ≡ suc (n - (k + 1))
+    more = omega arith
+
+pub class_none : (types : List Outline) (n : ℕ) → methods_of types (superclasses types n None) ≡ []
+class_none types zero = refl
+class_none types (suc n) = refl
