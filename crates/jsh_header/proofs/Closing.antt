@@ -1,5 +1,5 @@
 -- A search against mentions gives the smallest set of members that holds the first ones and each one whose header mentions a type of it.
-use Rattle.std.proofs.Common.{◌≡◌, ℕ, ◌<◌, Bool, List, length, map, refl, sym, subst, ◌∙◌, ap}
+use Rattle.std.proofs.Common.{◌≡◌, ℕ, ◌<◌, Bool, not, List, [], ◌∷◌, length, map, refl, sym, subst, ◌∙◌, ap}
 use Rattle.std.specs.Prelude.{slice_get}
 use Rattle.std.specs.List.{range_with_len, filter}
 use Rattle.std.proofs.lemmas.List.{length-map}
@@ -33,3 +33,20 @@ module _ (members : List Member) (p : ℕ → Bool) where
   closing_smallest set smallest =
       smallest_same (length members) (is_among (filter p (range_with_len 0 (length members)))) p (has_edge_back edges) mentioned (λ i below. among_filtered p (length members) i below) (λ i j i_below j_below. edge_same i j) set
           (subst (λ (n : ℕ). IsSmallest n (is_among (filter p (range_with_len 0 (length members)))) (has_edge_back edges) set) count smallest)
+
+  -- what a search along these edges marks
+  pub closing_marks : (first : List ℕ) (some : List (List ℕ)) (m : List Bool) → first ≡ filter p (range_with_len 0 (length members)) → some ≡ edges → m ≡ marks_back first some
+      → m ≡ map (closure (length members) p (λ from to. leads members to from)) (range_with_len 0 (length members))
+  closing_marks first some m first_is some_is m_is =
+      m_is ∙ ap (λ (places : List ℕ). marks_back places some) first_is ∙ ap (λ (lists : List (List ℕ)). marks_back (filter p (range_with_len 0 (length members))) lists) some_is ∙ closing
+
+  pub closing_least : (first : List ℕ) (some : List (List ℕ)) (set : ℕ → Bool) → first ≡ filter p (range_with_len 0 (length members)) → some ≡ edges
+      → IsSmallest (length some) (is_among first) (has_edge_back some) set → IsSmallest (length members) p (λ from to. leads members to from) set
+  closing_least first some set first_is some_is smallest =
+      closing_smallest set
+          (subst (λ (lists : List (List ℕ)). IsSmallest (length lists) (is_among (filter p (range_with_len 0 (length members)))) (has_edge_back lists) set) some_is
+          (subst (λ (places : List ℕ). IsSmallest (length some) (is_among places) (has_edge_back some) set) first_is smallest))
+
+pub map_turned : {A : Type 0} (f : A → Bool) (xs : List A) → map not (map f xs) ≡ map (λ (x : A). not (f x)) xs
+map_turned f [] = refl
+map_turned f (x ∷ xs) = ap (λ (rest : List Bool). not (f x) ∷ rest) (map_turned f xs)

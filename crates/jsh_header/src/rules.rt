@@ -182,11 +182,11 @@ fn push_at_supertypes(
     ensures kept { hierarchy.new ≡ hierarchy.old }
     ensures breaches { OnOk result (breaches.new.items ≡ breaches.old.items ++ spec.at_supertypes hierarchy.old place writtens.now) }
 {
-    let firsts = firsts(alloc, hierarchy, place, writtens)?;
+    let firsts = find_firsts(alloc, hierarchy, place, writtens)?;
     push_at_indexes(breaches, writtens.len(), &firsts)
 }
 
-fn firsts(
+fn find_firsts(
     alloc: Global,
     hierarchy: &mut Hierarchy<'_>,
     place: usize,

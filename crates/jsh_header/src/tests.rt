@@ -546,13 +546,13 @@ fn check_place(
 ) -> Result<(), Fail> {
     let breaches = as_breaches(alloc, &[(row.0, row.1)])?;
     let found = diagnostics(alloc, tree, breaches.as_slice())?;
-    let expected = Diagnostic {
+    let mut expected = Vec::new(alloc);
+    expected.push(Diagnostic {
         code: Code::SuperRule { number: row.0 },
         place: row.2,
         name: None,
-    };
-    assert_eq!(rt; found.len(), 1);
-    assert_eq!(rt; found.get(0) == Some(&expected), true);
+    })?;
+    assert_eq!(rt; found.as_slice(), expected.as_slice());
     Ok(())
 }
 
