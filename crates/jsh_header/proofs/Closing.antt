@@ -1,11 +1,11 @@
 -- A search against mentions gives the smallest set of members that holds the first ones and each one whose header mentions a type of it.
-use Rattle.std.proofs.Common.{◌≡◌, ℕ, ◌<◌, Bool, not, List, [], ◌∷◌, length, map, refl, sym, subst, ◌∙◌, ap}
+use Rattle.std.proofs.Common.{◌≡◌, ℕ, ◌+◌, ◌<◌, Bool, cond, not, List, [], ◌∷◌, ◌++◌, length, map, refl, sym, subst, ◌∙◌, ap}
 use Rattle.std.specs.Prelude.{slice_get}
 use Rattle.std.specs.List.{range_with_len, filter}
 use Rattle.std.proofs.lemmas.List.{length-map}
 use Rattle.jsh_tree.specs.declared.library.Member.{Member}
 use Rattle.jsh_closure.specs.Closure.{closure, is_among, has_edge, has_edge_back, marks_back, IsSmallest}
-use Rattle.jsh_closure.proofs.Ranges.{among_filtered}
+use Rattle.jsh_closure.proofs.Ranges.{among_filtered, filter_range_more}
 use Rattle.jsh_closure.proofs.Reversing.{marks_same, smallest_same}
 use Rattle.jsh_scope.specs.Reached.{places_in, leads}
 use Rattle.jsh_scope.proofs.Reaching.{at_map}
@@ -50,3 +50,12 @@ module _ (members : List Member) (p : ℕ → Bool) where
 pub map_turned : {A : Type 0} (f : A → Bool) (xs : List A) → map not (map f xs) ≡ map (λ (x : A). not (f x)) xs
 map_turned f [] = refl
 map_turned f (x ∷ xs) = ap (λ (rest : List Bool). not (f x) ∷ rest) (map_turned f xs)
+
+-- one place more
+pub filter_step : (p : ℕ → Bool) (k : ℕ) (passes : Bool) (places new : List ℕ) → places ≡ filter p (range_with_len 0 k) → passes ≡ p k → new ≡ places ++ cond passes (k ∷ []) []
+    → new ≡ filter p (range_with_len 0 (k + 1))
+filter_step p k passes places new places_are passes_is new_is =
+    new_is
+    ∙ ap (λ (some : List ℕ). some ++ cond passes (k ∷ []) []) places_are
+    ∙ ap (λ (b : Bool). filter p (range_with_len 0 k) ++ cond b (k ∷ []) []) passes_is
+    ∙ sym (filter_range_more p k)

@@ -1,4 +1,4 @@
 pub mod Closing
 pub mod Alike
-pub mod Places
+pub mod Positions
 pub mod Naming

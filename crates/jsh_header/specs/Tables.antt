@@ -11,7 +11,7 @@ use Rattle.jsh_header.specs.Outlines.{outlines}
 pub record AreNames (scope : Scope) (library : Library) (behind : ℕ) : Type 0 where
   pub library_is : library ≡ scope.library
   pub behind_is : behind ≡ length scope.members
-  pub fits : length scope.members + length scope.library.types < 2 ^ 64
+  pub fits : behind + length library.types < 2 ^ 64
 
 abbrev pub direct_of : Outline → List ℕ
 direct_of type = type.direct

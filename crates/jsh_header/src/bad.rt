@@ -10,7 +10,8 @@ ghost use Rattle.jsh_header.specs.Bad as spec;
 
 use crate::hierarchy::Hierarchy;
 use crate::names::Names;
-use crate::rules::breaches_at;
+use crate::places::push_if;
+use crate::rules::{Breach, breaches_at};
 use jsh_closure::closure_back;
 use jsh_scope::mentioned_types;
 use jsh_snippet::mentions;
@@ -37,7 +38,8 @@ pub fn visible(alloc: Global, live: &[Member], library: &Library) -> Result<Vec<
     ensures { IfOk result (λ marks. marks.items ≡ spec.visible (record { members = live.now; library = library.now })) }
 {
     let bad = bad(alloc, live, library)?;
-    turned(alloc, bad.as_slice())
+    let marks = turned(alloc, bad.as_slice())?;
+    Ok(marks)
 }
 
 fn turned(alloc: Global, marks: &[bool]) -> Result<Vec<bool>, NoMemory>
@@ -60,9 +62,8 @@ fn bad_themselves(
 {
     let mut places = Vec::new(alloc);
     for place in 0..live.len() {
-        if is_bad_itself(alloc, hierarchy, place, live.get(place))? {
-            places.push(place)?;
-        }
+        let bad = is_bad_itself(alloc, hierarchy, place, live.get(place))?;
+        push_if(&mut places, place, bad)?;
     }
     Ok(places)
 }
@@ -80,7 +81,16 @@ fn is_bad_itself(
         return Ok(true);
     }
     let breaches = breaches_at(alloc, hierarchy, place, member)?;
-    Ok(!breaches.as_slice().is_empty())
+    Ok(is_nonempty(breaches.as_slice()))
+}
+
+fn is_nonempty(breaches: &[Breach]) -> bool
+    ensures { result ≡ is_nonempty breaches.now }
+{
+    match breaches {
+        [] => false,
+        _ => true,
+    }
 }
 
 fn lacks_at(

@@ -122,7 +122,8 @@ fn inherited<'a>(
     ensures methods { IfOk result (λ methods. AreAlike methods.items (spec.inherited types.now place)) }
 {
     let above = finder.found(alloc, direct_at(types, place))?;
-    methods_at_all(alloc, types, above.as_slice())
+    let methods = methods_at_all(alloc, types, above.as_slice())?;
+    Ok(methods)
 }
 
 fn is_above(

@@ -8,6 +8,7 @@ mod diagnostics;
 mod hierarchy;
 mod names;
 mod outlines;
+mod places;
 mod replaced;
 mod rules;
 mod signatures;
