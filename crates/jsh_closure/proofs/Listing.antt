@@ -64,7 +64,7 @@ module _ (first : List ℕ) (edges : List (List ℕ)) where
   pub end_found : (m : List Bool) (found : List ℕ) → IsListing first edges m [] found → IsFound first edges found
   end_found m found listing = record {
     within = λ i held. omega (arith, listing.search.size, marked_below first edges m i (listing.found_marked i held));
-    reached = λ i below. same_bool first edges (is_among found i) (get_or m i false) (listing.found_marked i) (listing.listed i) ∙ ap (λ (some : List Bool). get_or some i false) (end first edges m listing.search) ∙ read first edges i below;
+    reached = λ i below. same_bool (is_among found i) (get_or m i false) (listing.found_marked i) (listing.listed i) ∙ ap (λ (some : List Bool). get_or some i false) (end first edges m listing.search) ∙ read first edges i below;
   }
 
   pub end_marks : (m : List Bool) (found : List ℕ) → IsListing first edges m [] found → MarksOnly found m

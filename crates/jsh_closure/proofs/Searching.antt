@@ -15,6 +15,13 @@ blank zero i = refl
 blank (suc n) zero = refl
 blank (suc n) (suc i) = blank n i
 
+-- two tests that pass together
+pub same_bool : (a b : Bool) → (a ≡ true → b ≡ true) → (b ≡ true → a ≡ true) → a ≡ b
+same_bool true true p q = refl
+same_bool true false p q = absurd (cc (p refl))
+same_bool false true p q = absurd (cc (q refl))
+same_bool false false p q = refl
+
 module _ (first : List ℕ) (edges : List (List ℕ)) where
   abbrev set_of : ℕ → Bool
   set_of = closure (length edges) (is_among first) (has_edge edges)
@@ -103,12 +110,6 @@ module _ (first : List ℕ) (edges : List (List ℕ)) where
       follows : (from to : ℕ) → to < length edges → is_among w1 from ≡ false → has_edge edges from to ≡ true → (get_or m from false ≡ true) ⊎ (get_or m from false ≡ false) → get_or m1 from false ≡ true → get_or m1 to false ≡ true
       follows from to below apart next (inl held) _ = old from to below apart next held (cases_eq from place)
       follows from to below apart next (inr new) held = absurd (both_ways _ apart (adds.added from held new))
-
-  pub same_bool : (a b : Bool) → (a ≡ true → b ≡ true) → (b ≡ true → a ≡ true) → a ≡ b
-  same_bool true true p q = refl
-  same_bool true false p q = absurd (cc (p refl))
-  same_bool false true p q = absurd (cc (q refl))
-  same_bool false false p q = refl
 
   pub end : (m : List Bool) → IsSearch first edges m [] → m ≡ marks first edges
   end m search = ext_get_or false m (marks first edges) (search.size ∙ sym (length-map-range_with_len set_of 0 (length edges)))

@@ -1,5 +1,5 @@
 -- Methods that are found in any order are those that are inherited.
-use Rattle.std.proofs.Common.{◌≡◌, ℕ, zero, suc, ◌<◌, Bool, true, false, ◌||◌, ◌&&◌, ◌⊎◌, inl, inr, List, [], ◌∷◌, ◌++◌, length, map, flat_map, refl, sym, ◌∙◌, ap, subst}
+use Rattle.std.proofs.Common.{◌≡◌, ℕ, zero, suc, ◌<◌, Bool, true, false, not, ◌||◌, ◌&&◌, ◌⊎◌, inl, inr, List, [], ◌∷◌, ◌++◌, length, map, flat_map, refl, sym, ◌∙◌, ap, subst}
 use Rattle.std.proofs.lemmas.Bool.{or_cases, or_left, or_right, and_parts, cases_Bool, eq-eqb, eqb-true, ltb-true}
 use Rattle.std.proofs.lemmas.List.{length-map}
 use Rattle.std.proofs.lemmas.List.Folds.{list_any-append}
@@ -10,15 +10,13 @@ use Rattle.jsh_closure.specs.Closure.{closure, is_among, places_at, has_edge}
 use Rattle.jsh_closure.specs.Finding.{IsFound}
 use Rattle.jsh_closure.proofs.Ranges.{among_filter, among_filtered}
 use Rattle.jsh_closure.proofs.Reversing.{closure_same}
+use Rattle.jsh_closure.proofs.Searching.{same_bool}
+use Rattle.jsh_scope.specs.Scope.{Scope}
 use Rattle.jsh_header.specs.declared.outlines.Outline.{Outline}
-use Rattle.jsh_header.specs.SuperRules.{direct_at, methods_at, leads_up, above, methods_of, inherited, contradicts, contradicts_any, has_contradiction, lacks_body, lacks_body_of}
+use Rattle.jsh_header.specs.declared.rules.Breach.{Breach}
+use Rattle.jsh_header.specs.Outlines.{outlines}
+use Rattle.jsh_header.specs.SuperRules.{direct_at, methods_at, leads_up, above, methods_of, inherited, class_methods, contradicts, contradicts_any, has_contradiction, lacks_body, lacks_body_of, is_library_name, at_name, at_its_name}
 use Rattle.jsh_header.specs.Tables.{AreAlike, direct_of}
-
-same_bool : (a b : Bool) → (a ≡ true → b ≡ true) → (b ≡ true → a ≡ true) → a ≡ b
-same_bool true true p q = refl
-same_bool true false p q = absurd (cc (p refl))
-same_bool false true p q = absurd (cc (q refl))
-same_bool false false p q = refl
 
 any_same : {A : Type 0} (p q : A → Bool) → ((x : A) → p x ≡ q x) → (xs : List A) → list_any p xs ≡ list_any q xs
 any_same p q same [] = refl
@@ -101,3 +99,30 @@ contradiction_alike own some others alike =
 
 pub lacks_alike : (of_classes own some others : List Signature) → AreAlike some others → lacks_body_of of_classes own some ≡ lacks_body_of of_classes own others
 lacks_alike of_classes own some others alike = ap (λ (b : Bool). lacks_body of_classes own || b) (alike.passes _)
+
+-- what is said at a type's name, one rule after another
+pub said_at_name : (scope : Scope) (place : ℕ) (interface is_abstract : Bool) (name : List ℕ) (own some : List Signature) (contradicting may opened hides : Bool) (none fourth fifth sixth : List Breach)
+    → AreAlike some (inherited (outlines scope) place)
+    → contradicting ≡ has_contradiction own some
+    → may ≡ (interface || is_abstract)
+    → opened ≡ (not may && lacks_body_of (class_methods (outlines scope) place) own some)
+    → hides ≡ is_library_name scope.library.types name
+    → none ≡ []
+    → fourth ≡ none ++ at_name 4 contradicting
+    → fifth ≡ fourth ++ at_name 5 opened
+    → sixth ≡ fifth ++ at_name 6 hides
+    → sixth ≡ at_its_name scope place interface is_abstract name own
+unfolding at_its_name
+said_at_name scope place interface is_abstract name own some contradicting may opened hides none fourth fifth sixth alike contradicting_is may_is opened_is hides_is none_is fourth_is fifth_is sixth_is =
+    sixth_is
+    ∙ ap (λ (xs : List Breach). xs ++ at_name 6 hides) (fifth_is ∙ ap (λ (xs : List Breach). xs ++ at_name 5 opened) (fourth_is ∙ ap (λ (xs : List Breach). xs ++ at_name 4 contradicting) none_is))
+    ∙ ap (λ (b : Bool). (at_name 4 b ++ at_name 5 opened) ++ at_name 6 hides) (contradicting_is ∙ contradiction_alike own some others alike)
+    ∙ ap (λ (b : Bool). (at_name 4 (has_contradiction own others) ++ at_name 5 b) ++ at_name 6 hides)
+    (opened_is ∙ ap (λ (b : Bool). not b && lacks_body_of classes own some) may_is ∙ ap (λ (b : Bool). not (interface || is_abstract) && b) (lacks_alike classes own some others alike))
+    ∙ ap (λ (b : Bool). (at_name 4 (has_contradiction own others) ++ at_name 5 (not (interface || is_abstract) && lacks_body_of classes own others)) ++ at_name 6 b) hides_is
+  where
+    abbrev others : List Signature
+    others = inherited (outlines scope) place
+
+    abbrev classes : List Signature
+    classes = class_methods (outlines scope) place

@@ -1,18 +1,21 @@
 -- Units by the name of their key.
-use Rattle.std.proofs.Common.{◌≡◌, ℕ, ◌+◌, ◌<◌, Bool, true, false, cond, ◌||◌, ◌&&◌, ◌⊎◌, inl, inr, List, [], ◌∷◌, ◌++◌, length, get_or, take, Option, Some, None, flat_map, refl, sym, ◌∙◌, ap}
+use Rattle.std.proofs.Common.{◌≡◌, ℕ, ◌+◌, ◌<◌, ◌≤◌, Bool, true, false, cond, ◌||◌, ◌&&◌, ◌⊎◌, inl, inr, List, [], ◌∷◌, ◌++◌, length, get_or, take, drop, Option, Some, None, BTreeMap, flat_map, refl, sym, ◌∙◌, ap}
 use Rattle.std.proofs.lemmas.Bool.{cases_Bool, and_parts, both_ways}
-use Rattle.std.proofs.lemmas.List.Folds.{list_any_more}
+use Rattle.std.proofs.lemmas.List.{at_drop_more, at_drop_all}
+use Rattle.std.proofs.lemmas.List.Folds.{list_any_more, find-append}
 use Rattle.std.specs.Prelude.{nat_eq, slice_get}
 use Rattle.std.specs.Ordering.{is_eq, nat_cmp}
 use Rattle.std.specs.BTreeSet.{BTreeSet, contains}
 use Rattle.std.specs.Cmp.{unsigned_tied}
-use Rattle.std.specs.Option.{option_to_list}
+use Rattle.std.specs.Option.{option_to_list, option_or}
 use Rattle.std.specs.List.{filter, find}
 use Rattle.std.specs.Cmp.Lexicographic.{pointwise, nat_list_eq_equiv}
 use Rattle.jsh_tree.specs.declared.key.Key.{Key}
 use Rattle.jsh_tree.specs.declared.key.Key.TheVariants as key
 use Rattle.jsh_tree.specs.declared.library.Member.{Member}
+use Rattle.jsh_closure.specs.Closure.{places_at}
 use Rattle.jsh_scope.specs.Scope.{same_name}
+use Rattle.jsh_scope.specs.Indexes.{found, IsIndexOfAll}
 use Rattle.jsh_header.specs.Replaced.{same_key, of_key, has_record}
 use Rattle.jsh_header.specs.Units.{name_of, is_name, has_name, HasRecords}
 
@@ -64,3 +67,28 @@ records_more units k unit old new below is updates has = record {
     either true false = refl
     either false true = refl
     either false false = refl
+
+found_split : (units : List Member) (wanted : Key) (places : List ℕ) (k : ℕ) → k < length places
+    → found_at units wanted (drop k places) ≡ option_or (of_key wanted (option_to_list (slice_get units (get_or places k 0)))) (found_at units wanted (drop (k + 1) places))
+found_split units wanted places k below =
+    at_drop_more (found_at units wanted) places k 0 below
+    ∙ find-append (λ (unit : Member). same_key unit.key wanted) (option_to_list (slice_get units (get_or places k 0))) (flat_map (λ (place : ℕ). option_to_list (slice_get units place)) (drop (k + 1) places))
+
+pub found_here : (units : List Member) (wanted : Key) (places : List ℕ) (k : ℕ) (unit : Member) → k < length places → Some unit ≡ of_key wanted (option_to_list (slice_get units (get_or places k 0)))
+    → found_at units wanted (drop k places) ≡ Some unit
+found_here units wanted places k unit below is =
+    found_split units wanted places k below ∙ ap (λ (one : Option Member). option_or one (found_at units wanted (drop (k + 1) places))) (sym is)
+
+pub found_later : (units : List Member) (wanted : Key) (places : List ℕ) (k : ℕ) → k < length places → None ≡ of_key wanted (option_to_list (slice_get units (get_or places k 0)))
+    → found_at units wanted (drop k places) ≡ found_at units wanted (drop (k + 1) places)
+found_later units wanted places k below is =
+    found_split units wanted places k below ∙ ap (λ (one : Option Member). option_or one (found_at units wanted (drop (k + 1) places))) (sym is)
+
+pub found_none : (units : List Member) (wanted : Key) (places : List ℕ) (k : ℕ) → length places ≤ k → found_at units wanted (drop k places) ≡ None
+found_none units wanted places k past = at_drop_all (found_at units wanted) places k past
+
+-- the first unit with a key, by the places of those with its name
+pub found_by_name : (units : List Member) (index : BTreeMap (List ℕ) (List ℕ)) (wanted : Key) (name : List ℕ) → IsIndexOfAll has_name units units index → name_of wanted ≡ Some name
+    → found_at units wanted (places_at (found index name)) ≡ of_key wanted units
+found_by_name units index wanted name indexed is =
+    ap (of_key wanted) (indexed.places name) ∙ find_named (λ (unit : Member). same_key unit.key wanted) (has_name name) (λ unit held. same_named unit.key wanted name is held) units

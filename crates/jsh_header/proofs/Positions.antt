@@ -1,5 +1,5 @@
 -- The first place that passes, and the classes up from one.
-use Rattle.std.proofs.Common.{◌≡◌, ℕ, zero, suc, ◌+◌, ◌-◌, ◌<◌, ◌≤◌, Bool, true, false, cond, List, [], ◌∷◌, ◌++◌, Option, Some, None, length, get_or, drop, refl, sym, ◌∙◌, ap, arith}
+use Rattle.std.proofs.Common.{◌≡◌, ℕ, zero, suc, ◌+◌, ◌-◌, ◌<◌, ◌≤◌, Bool, true, false, cond, List, [], ◌∷◌, ◌++◌, Option, Some, None, length, get_or, drop, refl, sym, ◌∙◌, ap, arith, append_assoc, append-nil}
 use Rattle.std.proofs.lemmas.List.{at_drop_more, at_drop_all}
 use Rattle.std.specs.Prelude.{slice_get}
 use Rattle.std.specs.List.{position_from}
@@ -32,3 +32,30 @@ class_more types n k place below = ap (λ (m : ℕ). methods_of types (superclas
 pub class_none : (types : List Outline) (n : ℕ) → methods_of types (superclasses types n None) ≡ []
 class_none types zero = refl
 class_none types (suc n) = refl
+
+-- one class more
+pub class_step : (types : List Outline) (n k place : ℕ) (methods new all : List Signature) (next after : Option ℕ) → k < n → next ≡ Some place → new ≡ methods ++ methods_at (slice_get types place) → after ≡ superclass_at (slice_get types place)
+    → methods ++ methods_of types (superclasses types (n - k) next) ≡ all → new ++ methods_of types (superclasses types (n - (k + 1)) after) ≡ all
+class_step types n k place methods new all next after below next_is new_is after_is so_far =
+    ap (λ (some : List Signature). some ++ methods_of types (superclasses types (n - (k + 1)) after)) new_is
+    ∙ ap (λ (one : Option ℕ). (methods ++ methods_at (slice_get types place)) ++ methods_of types (superclasses types (n - (k + 1)) one)) after_is
+    ∙ append_assoc methods (methods_at (slice_get types place)) (methods_of types (superclasses types (n - (k + 1)) (superclass_at (slice_get types place))))
+    ∙ ap (λ (some : List Signature). methods ++ some) (sym (class_more types n k place below))
+    ∙ ap (λ (one : Option ℕ). methods ++ methods_of types (superclasses types (n - k) one)) (sym next_is)
+    ∙ so_far
+
+-- no class is left
+pub class_done : (types : List Outline) (m : ℕ) (methods all : List Signature) (next : Option ℕ) → next ≡ None → methods ++ methods_of types (superclasses types m next) ≡ all → methods ≡ all
+class_done types m methods all next next_is so_far =
+    sym (append-nil methods)
+    ∙ ap (λ (some : List Signature). methods ++ some) (sym (class_none types m))
+    ∙ ap (λ (one : Option ℕ). methods ++ methods_of types (superclasses types m one)) (sym next_is)
+    ∙ so_far
+
+-- as many as there are types
+pub class_end : (types : List Outline) (n k : ℕ) (methods all : List Signature) (next : Option ℕ) → n ≤ k → methods ++ methods_of types (superclasses types (n - k) next) ≡ all → methods ≡ all
+class_end types n k methods all next past so_far =
+    sym (append-nil methods) ∙ ap (λ (m : ℕ). methods ++ methods_of types (superclasses types m next)) none ∙ so_far
+  where
+    none : 0 ≡ n - k
+    none = omega arith

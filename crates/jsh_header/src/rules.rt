@@ -231,7 +231,8 @@ fn first_back(
     ensures first { IfOk result (λ first. first ≡ spec.first_back hierarchy.old place writtens.now) }
 {
     for (index, written) in writtens.iter().enumerate() {
-        if leads_back(alloc, hierarchy, place, written)? {
+        let back = leads_back(alloc, hierarchy, place, written)?;
+        if back {
             return Ok(Some(index));
         }
     }

@@ -83,9 +83,11 @@ fn append_unit(
 ) -> Result<(), NoMemory>
     ensures { OnOk result (AppendsPlace (λ name. has_name name unit.now) at places.old places.new) }
 {
-    match name_of(&unit.key) {
-        Some(name) => append_place(places, alloc, name, at),
-        None => Ok(()),
+    match &unit.key {
+        Key::OfType(name) => append_place(places, alloc, name, at),
+        Key::OfVar(name) => append_place(places, alloc, name, at),
+        Key::OfMethod { name, .. } => append_place(places, alloc, name, at),
+        _ => Ok(()),
     }
 }
 
