@@ -1,13 +1,13 @@
 -- A search that lists what no longer waits ends with the places of the closure.
-use Rattle.std.proofs.Common.{◌≡◌, ℕ, zero, suc, ◌+◌, ◌<◌, ◌≤◌, Bool, true, false, ◌||◌, ◌⊎◌, inl, inr, List, [], ◌∷◌, ◌++◌, length, get_or, drop, refl, sym, ◌∙◌, ap, arith, add-one, drop-cons}
+use Rattle.std.proofs.Common.{◌≡◌, ℕ, zero, suc, ◌+◌, ◌<◌, ◌≤◌, Bool, true, false, ◌||◌, ◌⊎◌, inl, inr, List, [], ◌∷◌, ◌++◌, length, get_or, drop, refl, sym, ◌∙◌, ap, subst, arith, add-one, drop-cons}
 use Rattle.std.proofs.Math.ListN.{set}
 use Rattle.std.proofs.lemmas.Bool.{or_cases, or_left, or_right, cases_Bool, cases_eq, cases_lt, both_ways, eqb-true, eq-eqb, ne_eqb}
-use Rattle.std.proofs.lemmas.List.{get_or-set_same, get_or-set_other, get_or_past}
+use Rattle.std.proofs.lemmas.List.{get_or-set_same, get_or-set_other, get_or_past, at_drop_all}
 use Rattle.std.proofs.lemmas.List.Folds.{list_any-append}
 use Rattle.std.specs.Prelude.{nat_eq, slice_get}
 use Rattle.jsh_closure.specs.Closure.{is_among, places_at, has_edge, closure}
 use Rattle.jsh_closure.specs.Searches.{Adds, IsSearch}
-use Rattle.jsh_closure.specs.Finding.{IsBlank, IsFound, MarksOnly, IsListing}
+use Rattle.jsh_closure.specs.Finding.{IsBlank, IsFound, MarksOnly, Unmarks, IsListing}
 use Rattle.jsh_closure.proofs.Searching.{begin, follow, end, read, same_bool, marked_below}
 
 one_among : (place i : ℕ) → is_among (place ∷ []) i ≡ true → i ≡ place
@@ -86,16 +86,22 @@ later places k i below apart held =
     at (inl same) = absurd (apart (eqb-true i (get_or places k 0) same))
     at (inr rest) = rest
 
-pub unmark_at : (places : List ℕ) (k : ℕ) (marks : List Bool) → k < length places → get_or places k 0 < length marks → MarksOnly (drop k places) marks
-    → MarksOnly (drop (k + 1) places) (set marks (get_or places k 0) false)
-unmark_at places k marks below inside only = record { stands = λ i held. at i held (cases_eq i (get_or places k 0)) }
-  where
-    at : (i : ℕ) → get_or (set marks (get_or places k 0) false) i false ≡ true → (i ≡ get_or places k 0) ⊎ (i ≡ get_or places k 0 → ⊥) → is_among (drop (k + 1) places) i ≡ true
-    at i held (inl same) = absurd (both_ways _ (ap (λ (j : ℕ). get_or (set marks (get_or places k 0) false) j false) same ∙ get_or-set_same marks (get_or places k 0) false false inside) held)
-    at i held (inr apart) = later places k i below apart (only.stands i (sym (get_or-set_other marks (get_or places k 0) i false false apart) ∙ held))
+pub unmark_at : (place : ℕ) (marks : List Bool) → place < length marks → Unmarks place marks (set marks place false)
+unmark_at place marks inside = record {
+  unmarked = get_or-set_same marks place false false inside;
+  others = λ i apart. get_or-set_other marks place i false false apart;
+}
 
-pub unmark_past : (places : List ℕ) (k : ℕ) (marks : List Bool) → k < length places → length marks ≤ get_or places k 0 → MarksOnly (drop k places) marks → MarksOnly (drop (k + 1) places) marks
-unmark_past places k marks below past only = record { stands = λ i held. later places k i below (apart i held) (only.stands i held) }
+pub unmark_past : (place : ℕ) (marks : List Bool) → length marks ≤ place → Unmarks place marks marks
+unmark_past place marks past = record { unmarked = get_or_past marks place false past; others = λ i apart. refl }
+
+-- one place less
+pub unmark_more : (places : List ℕ) (k : ℕ) (marks new : List Bool) → k < length places → MarksOnly (drop k places) marks → Unmarks (get_or places k 0) marks new → MarksOnly (drop (k + 1) places) new
+unmark_more places k marks new below only unmarks = record { stands = λ i held. at i held (cases_eq i (get_or places k 0)) }
   where
-    apart : (i : ℕ) → get_or marks i false ≡ true → i ≡ get_or places k 0 → ⊥
-    apart i held same = both_ways _ (get_or_past marks i false (omega arith)) held
+    at : (i : ℕ) → get_or new i false ≡ true → (i ≡ get_or places k 0) ⊎ (i ≡ get_or places k 0 → ⊥) → is_among (drop (k + 1) places) i ≡ true
+    at i held (inl same) = absurd (both_ways _ (ap (λ (j : ℕ). get_or new j false) same ∙ unmarks.unmarked) held)
+    at i held (inr apart) = later places k i below apart (only.stands i (sym (unmarks.others i apart) ∙ held))
+
+pub unmark_all : (places : List ℕ) (k : ℕ) (marks : List Bool) → length places ≤ k → MarksOnly (drop k places) marks → IsBlank marks
+unmark_all places k marks past only = none_marked marks (subst (λ (some : List ℕ). MarksOnly some marks) (at_drop_all (λ (some : List ℕ). some) places k past) only)

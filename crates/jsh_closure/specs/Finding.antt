@@ -16,6 +16,11 @@ pub record IsFound (first : List ℕ) (edges : List (List ℕ)) (found : List �
 pub record MarksOnly (found : List ℕ) (marks : List Bool) : Type 0 where
   pub stands : (place : ℕ) → slice_index_or marks place false ≡ true → is_among found place ≡ true
 
+-- the place isn't marked, and each other one is as it was
+pub record Unmarks (place : ℕ) (old new : List Bool) : Type 0 where
+  pub unmarked : slice_index_or new place false ≡ false
+  pub others : (other : ℕ) → (other ≡ place → ⊥) → slice_index_or new other false ≡ slice_index_or old other false
+
 -- a search that lists what no longer waits
 pub record IsListing (first : List ℕ) (edges : List (List ℕ)) (marks : List Bool) (waiting found : List ℕ) : Type 0 where
   pub search : IsSearch first edges marks waiting

@@ -1,7 +1,7 @@
 //! Searches one after another along the same edges.
 
 ghost use Rattle.std.specs.Prelude.{◌≡◌, length, IfOk, OnOk};
-ghost use Rattle.jsh_closure.specs.Finding.{IsBlank, IsFound, MarksOnly};
+ghost use Rattle.jsh_closure.specs.Finding.{IsBlank, IsFound, MarksOnly, Unmarks};
 
 use crate::{add, next_of};
 use jsh_tree::Seq;
@@ -112,8 +112,15 @@ fn unmark(places: &[usize], marks: &mut Vec<bool>)
     ensures { IsBlank marks.new.items }
 {
     for place in places {
-        if *place < marks.len() {
-            marks[*place] = false;
-        }
+        unmark_one(*place, marks);
     }
+}
+
+fn unmark_one(place: usize, marks: &mut Vec<bool>)
+    ensures { Unmarks place marks.old.items marks.new.items }
+{
+    if marks.len() <= place {
+        return;
+    }
+    marks[place] = false;
 }

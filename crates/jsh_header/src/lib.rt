@@ -3,21 +3,21 @@
 //! one whose header mentions a type of the set.
 #![tactic(auto)]
 
-mod bad;
-mod diagnostics;
+mod bad_set;
 mod hierarchy;
 mod names;
 mod outlines;
 mod places;
-mod replaced;
+mod replaced_set;
+mod rule_diagnostics;
 mod rules;
 mod signatures;
 mod units;
 mod written;
 
-pub use bad::{bad, visible};
-pub use diagnostics::diagnostics;
-pub use replaced::replaced;
+pub use bad_set::{bad, visible};
+pub use replaced_set::replaced;
+pub use rule_diagnostics::diagnostics;
 pub use rules::{Breach, breaches};
 
 #[cfg(test)]

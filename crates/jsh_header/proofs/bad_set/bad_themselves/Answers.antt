@@ -7,7 +7,7 @@ use Rattle.jsh_scope.specs.Scope.{Scope}
 use Rattle.jsh_header.specs.SuperRules.{breaches_at, is_nonempty}
 use Rattle.jsh_header.specs.Bad.{is_bad_itself, lacks_at}
 use Rattle.jsh_header.proofs.Closing.{filter_step}
-use Rattle.jsh_header.proofs.bad.bad_themselves.Goals as goal
+use Rattle.jsh_header.proofs.bad_set.bad_themselves.Goals as goal
 
 pub loop-place-preserved : goal.loop-place-preserved
 loop-place-preserved c =

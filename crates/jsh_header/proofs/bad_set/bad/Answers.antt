@@ -5,7 +5,7 @@ use Rattle.jsh_scope.specs.Scope.{Scope}
 use Rattle.jsh_scope.specs.Reached.{places_in}
 use Rattle.jsh_header.specs.Bad.{is_bad_itself, is_bad}
 use Rattle.jsh_header.proofs.Closing.{closing_marks, closing_least}
-use Rattle.jsh_header.proofs.bad.bad.Goals as goal
+use Rattle.jsh_header.proofs.bad_set.bad.Goals as goal
 
 pub returns : goal.returns
 unfolding is_bad

@@ -4,7 +4,7 @@ use Rattle.jsh_tree.specs.declared.library.Member.{Member}
 use Rattle.jsh_scope.specs.Reached.{places_in}
 use Rattle.jsh_header.specs.Replaced.{is_new_place, is_replaced}
 use Rattle.jsh_header.proofs.Closing.{closing_marks, closing_least}
-use Rattle.jsh_header.proofs.replaced.replaced.Goals as goal
+use Rattle.jsh_header.proofs.replaced_set.replaced.Goals as goal
 
 pub returns : goal.returns
 unfolding is_replaced

@@ -3,7 +3,7 @@ use Rattle.std.specs.List.{range_with_len}
 use Rattle.jsh_scope.specs.Scope.{Scope}
 use Rattle.jsh_header.specs.Bad.{is_bad}
 use Rattle.jsh_header.proofs.Closing.{map_turned}
-use Rattle.jsh_header.proofs.bad.visible.Goals as goal
+use Rattle.jsh_header.proofs.bad_set.visible.Goals as goal
 
 pub returns : goal.returns
 returns c =

@@ -1,7 +1,7 @@
 use Rattle.std.proofs.Common.{◌≡◌}
 use Rattle.std.specs.List.{filter, range_with_len}
 use Rattle.jsh_header.specs.Bad.{is_bad_itself}
-use Rattle.jsh_header.proofs.bad.bad_themselves.Given as goal
+use Rattle.jsh_header.proofs.bad_set.bad_themselves.Given as goal
 
 abbrev pub invariant-loop-place : goal.invariant-loop-place
 invariant-loop-place l = record {

@@ -2,7 +2,7 @@ use Rattle.std.proofs.Common.{◌≡◌, Option, ◌∙◌, ap}
 use Rattle.jsh_tree.specs.declared.library.Member.{Member}
 use Rattle.jsh_header.specs.Replaced.{is_new_at, is_new_place}
 use Rattle.jsh_header.proofs.Closing.{filter_step}
-use Rattle.jsh_header.proofs.replaced.new_places.Goals as goal
+use Rattle.jsh_header.proofs.replaced_set.new_places.Goals as goal
 
 pub loop-place-preserved : goal.loop-place-preserved
 loop-place-preserved c =
