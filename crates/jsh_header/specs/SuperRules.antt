@@ -157,19 +157,19 @@ module _ (scope : Scope) where
 
   -- the first written supertype at which the first and the second rule is broken
   abbrev pub first_no_superclass : List Written → Option ℕ
-  first_no_superclass writtens = position_from (λ (written : Written). is_no_superclass written (type_at (outlines scope) (place_of written))) 0 writtens
+  first_no_superclass supertypes = position_from (λ (written : Written). is_no_superclass written (type_at (outlines scope) (place_of written))) 0 supertypes
 
   abbrev pub first_no_interface : List Written → Option ℕ
-  first_no_interface writtens = position_from (λ (written : Written). is_no_interface written (type_at (outlines scope) (place_of written))) 0 writtens
+  first_no_interface supertypes = position_from (λ (written : Written). is_no_interface written (type_at (outlines scope) (place_of written))) 0 supertypes
 
   module _ (place : ℕ) where
     -- that at which the third is
     abbrev pub first_back : List Written → Option ℕ
-    first_back writtens = position_from (λ (written : Written). leads_back (outlines scope) place (place_of written)) 0 writtens
+    first_back supertypes = position_from (λ (written : Written). leads_back (outlines scope) place (place_of written)) 0 supertypes
 
     -- at each supertype, in their order
     abbrev pub at_supertypes : List Written → List Breach
-    at_supertypes writtens = flat_map (at_index (first_no_superclass writtens) (first_no_interface writtens) (first_back writtens)) (range_with_len 0 (length writtens))
+    at_supertypes supertypes = flat_map (at_index (first_no_superclass supertypes) (first_no_interface supertypes) (first_back supertypes)) (range_with_len 0 (length supertypes))
 
     -- some abstract method that the type has or gets has no body in it
     abbrev pub is_open : List Signature → Bool

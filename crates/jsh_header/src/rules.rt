@@ -90,13 +90,13 @@ fn breaches_of(
                 name,
                 own.as_slice(),
             )?;
-            let writtens = written_supertypes(
+            let supertypes = written_supertypes(
                 alloc,
                 *interface,
                 extends.as_slice(),
                 implements.as_slice(),
             )?;
-            push_at_supertypes(&mut breaches, alloc, hierarchy, place, writtens.as_slice())?;
+            push_at_supertypes(&mut breaches, alloc, hierarchy, place, supertypes.as_slice())?;
             Ok(Seq::from_vec(breaches))
         }
         _ => Ok(Seq::new(alloc)),
@@ -119,11 +119,11 @@ fn at_its_name(
     let inherited = hierarchy.inherited(alloc, place)?;
     let contradicts = has_contradiction(own, inherited.as_slice());
     let may_be_open = may_be_open(interface, is_abstract);
-    let open = is_open(alloc, hierarchy, place, may_be_open, own, inherited.as_slice())?;
+    let opened = is_open(alloc, hierarchy, place, may_be_open, own, inherited.as_slice())?;
     let hides = hierarchy.names().is_library_name(name);
     let mut breaches = Vec::new(alloc);
     push_at_name(&mut breaches, 4, contradicts)?;
-    push_at_name(&mut breaches, 5, open)?;
+    push_at_name(&mut breaches, 5, opened)?;
     push_at_name(&mut breaches, 6, hides)?;
     Ok(breaches)
 }
@@ -143,7 +143,7 @@ fn is_open(
     own: &[Method<'_>],
     inherited: &[Method<'_>],
 ) -> Result<bool, NoMemory>
-    ensures { IfOk result (λ open. open ≡ (not may_be_open && spec.lacks_body_of (spec.class_methods (outlines hierarchy.now) place) own.now inherited.now)) }
+    ensures { IfOk result (λ opened. opened ≡ (not may_be_open && spec.lacks_body_of (spec.class_methods (outlines hierarchy.now) place) own.now inherited.now)) }
 {
     if may_be_open {
         return Ok(false);
@@ -177,46 +177,46 @@ fn push_at_supertypes(
     alloc: Global,
     hierarchy: &mut Hierarchy<'_>,
     place: usize,
-    writtens: &[Written],
+    supertypes: &[Written],
 ) -> Result<(), NoMemory>
     ensures kept { hierarchy.new ≡ hierarchy.old }
-    ensures breaches { OnOk result (breaches.new.items ≡ breaches.old.items ++ spec.at_supertypes hierarchy.old place writtens.now) }
+    ensures breaches { OnOk result (breaches.new.items ≡ breaches.old.items ++ spec.at_supertypes hierarchy.old place supertypes.now) }
 {
-    let firsts = find_firsts(alloc, hierarchy, place, writtens)?;
-    push_at_indexes(breaches, writtens.len(), &firsts)
+    let firsts = find_firsts(alloc, hierarchy, place, supertypes)?;
+    push_at_indexes(breaches, supertypes.len(), &firsts)
 }
 
 fn find_firsts(
     alloc: Global,
     hierarchy: &mut Hierarchy<'_>,
     place: usize,
-    writtens: &[Written],
+    supertypes: &[Written],
 ) -> Result<Firsts, NoMemory>
     ensures kept { hierarchy.new ≡ hierarchy.old }
-    ensures no_superclass { IfOk result (λ firsts. firsts.no_superclass ≡ spec.first_no_superclass hierarchy.old writtens.now) }
-    ensures no_interface { IfOk result (λ firsts. firsts.no_interface ≡ spec.first_no_interface hierarchy.old writtens.now) }
-    ensures back { IfOk result (λ firsts. firsts.back ≡ spec.first_back hierarchy.old place writtens.now) }
+    ensures no_superclass { IfOk result (λ firsts. firsts.no_superclass ≡ spec.first_no_superclass hierarchy.old supertypes.now) }
+    ensures no_interface { IfOk result (λ firsts. firsts.no_interface ≡ spec.first_no_interface hierarchy.old supertypes.now) }
+    ensures back { IfOk result (λ firsts. firsts.back ≡ spec.first_back hierarchy.old place supertypes.now) }
 {
-    let back = first_back(alloc, hierarchy, place, writtens)?;
+    let back = first_back(alloc, hierarchy, place, supertypes)?;
     Ok(Firsts {
-        no_superclass: first_no_superclass(hierarchy, writtens),
-        no_interface: first_no_interface(hierarchy, writtens),
+        no_superclass: first_no_superclass(hierarchy, supertypes),
+        no_interface: first_no_interface(hierarchy, supertypes),
         back,
     })
 }
 
-fn first_no_superclass(hierarchy: &Hierarchy<'_>, writtens: &[Written]) -> Option<usize>
-    ensures { result ≡ spec.first_no_superclass hierarchy.now writtens.now }
+fn first_no_superclass(hierarchy: &Hierarchy<'_>, supertypes: &[Written]) -> Option<usize>
+    ensures { result ≡ spec.first_no_superclass hierarchy.now supertypes.now }
 {
-    writtens
+    supertypes
         .iter()
         .position(|written| is_no_superclass(written, type_of(hierarchy, written)))
 }
 
-fn first_no_interface(hierarchy: &Hierarchy<'_>, writtens: &[Written]) -> Option<usize>
-    ensures { result ≡ spec.first_no_interface hierarchy.now writtens.now }
+fn first_no_interface(hierarchy: &Hierarchy<'_>, supertypes: &[Written]) -> Option<usize>
+    ensures { result ≡ spec.first_no_interface hierarchy.now supertypes.now }
 {
-    writtens
+    supertypes
         .iter()
         .position(|written| is_no_interface(written, type_of(hierarchy, written)))
 }
@@ -225,12 +225,12 @@ fn first_back(
     alloc: Global,
     hierarchy: &mut Hierarchy<'_>,
     place: usize,
-    writtens: &[Written],
+    supertypes: &[Written],
 ) -> Result<Option<usize>, NoMemory>
     ensures kept { hierarchy.new ≡ hierarchy.old }
-    ensures first { IfOk result (λ first. first ≡ spec.first_back hierarchy.old place writtens.now) }
+    ensures first { IfOk result (λ first. first ≡ spec.first_back hierarchy.old place supertypes.now) }
 {
-    for (index, written) in writtens.iter().enumerate() {
+    for (index, written) in supertypes.iter().enumerate() {
         let back = leads_back(alloc, hierarchy, place, written)?;
         if back {
             return Ok(Some(index));

@@ -21,24 +21,24 @@ pub(crate) fn written_supertypes(
     extends: &[Name],
     implements: &[Name],
 ) -> Result<Vec<Written>, NoMemory>
-    ensures { IfOk result (λ writtens. writtens.items ≡ spec.written_supertypes interface extends.now implements.now) }
+    ensures { IfOk result (λ supertypes. supertypes.items ≡ spec.written_supertypes interface extends.now implements.now) }
 {
-    let mut writtens = Vec::new(alloc);
+    let mut supertypes = Vec::new(alloc);
     if interface {
-        push_interfaces(&mut writtens, extends)?;
-        Ok(writtens)
+        push_interfaces(&mut supertypes, extends)?;
+        Ok(supertypes)
     } else {
-        push_superclasses(&mut writtens, extends)?;
-        push_interfaces(&mut writtens, implements)?;
-        Ok(writtens)
+        push_superclasses(&mut supertypes, extends)?;
+        push_interfaces(&mut supertypes, implements)?;
+        Ok(supertypes)
     }
 }
 
-fn push_superclasses(writtens: &mut Vec<Written>, names: &[Name]) -> Result<(), NoMemory>
-    ensures { OnOk result (writtens.new.items ≡ writtens.old.items ++ map spec.superclass_named names.now) }
+fn push_superclasses(supertypes: &mut Vec<Written>, names: &[Name]) -> Result<(), NoMemory>
+    ensures { OnOk result (supertypes.new.items ≡ supertypes.old.items ++ map spec.superclass_named names.now) }
 {
     for name in names {
-        writtens.push(Written {
+        supertypes.push(Written {
             is_superclass: true,
             name: name.clone()?,
         })?;
@@ -46,11 +46,11 @@ fn push_superclasses(writtens: &mut Vec<Written>, names: &[Name]) -> Result<(), 
     Ok(())
 }
 
-fn push_interfaces(writtens: &mut Vec<Written>, names: &[Name]) -> Result<(), NoMemory>
-    ensures { OnOk result (writtens.new.items ≡ writtens.old.items ++ map spec.interface_named names.now) }
+fn push_interfaces(supertypes: &mut Vec<Written>, names: &[Name]) -> Result<(), NoMemory>
+    ensures { OnOk result (supertypes.new.items ≡ supertypes.old.items ++ map spec.interface_named names.now) }
 {
     for name in names {
-        writtens.push(Written {
+        supertypes.push(Written {
             is_superclass: false,
             name: name.clone()?,
         })?;

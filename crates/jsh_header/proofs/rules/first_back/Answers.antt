@@ -12,21 +12,21 @@ leads scope place written = leads_back (outlines scope) place (place_of scope wr
 pub returns-then-back-clause-first : goal.returns-then-back-clause-first
 returns-then-back-clause-first c =
     let scope = c.args.hierarchy.now in
-    let x = c.index-writtens-index.result in
+    let x = c.index-supertypes-index.result in
     let passes : leads scope c.args.place x ≡ true = sym (c.in_ok-back.ensures.leads ∙ ap (λ (some : Scope). leads some c.args.place x) c.loop-index.invariant.kept) ∙ c.if-back.true in
-    sym (position_here (leads scope c.args.place) c.args.writtens.now c.loop-index.index x c.loop-index-test.true c.index-writtens-index.is passes) ∙ c.loop-index.invariant.rest
+    sym (position_here (leads scope c.args.place) c.args.supertypes.now c.loop-index.index x c.loop-index-test.true c.index-supertypes-index.is passes) ∙ c.loop-index.invariant.rest
 
 pub loop-index-preserved : goal.loop-index-preserved
 loop-index-preserved c =
     let scope = c.args.hierarchy.now in
-    let x = c.index-writtens-index.result in
+    let x = c.index-supertypes-index.result in
     let fails : leads scope c.args.place x ≡ false = sym (c.in_ok-back.ensures.leads ∙ ap (λ (some : Scope). leads some c.args.place x) c.loop-index.invariant.kept) ∙ c.if-back.false in
     record {
       kept = c.leads_back-back.ensures.kept ∙ c.loop-index.invariant.kept;
-      rest = sym (position_later (leads scope c.args.place) c.args.writtens.now c.loop-index.index x c.loop-index-test.true c.index-writtens-index.is fails) ∙ c.loop-index.invariant.rest;
+      rest = sym (position_later (leads scope c.args.place) c.args.supertypes.now c.loop-index.index x c.loop-index-test.true c.index-supertypes-index.is fails) ∙ c.loop-index.invariant.rest;
     }
 
 pub returns-clause-first : goal.returns-clause-first
 returns-clause-first c =
     let scope = c.args.hierarchy.now in
-    sym (position_none (leads scope c.args.place) c.args.writtens.now c.loop-index.index (omega (arith, c.loop-index-test.false))) ∙ c.loop-index.invariant.rest
+    sym (position_none (leads scope c.args.place) c.args.supertypes.now c.loop-index.index (omega (arith, c.loop-index-test.false))) ∙ c.loop-index.invariant.rest

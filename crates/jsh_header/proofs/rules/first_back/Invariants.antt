@@ -8,6 +8,6 @@ use Rattle.jsh_header.proofs.rules.first_back.Given as goal
 abbrev pub invariant-loop-index : goal.invariant-loop-index
 invariant-loop-index l = record {
   kept : l.hierarchy ≡ l.initial.hierarchy;
-  rest : position_from (λ (written : Written). leads_back (outlines l.initial.hierarchy) l.place (place_of l.initial.hierarchy written)) l.index (drop l.index l.writtens)
-      ≡ position_from (λ (written : Written). leads_back (outlines l.initial.hierarchy) l.place (place_of l.initial.hierarchy written)) 0 l.writtens;
+  rest : position_from (λ (written : Written). leads_back (outlines l.initial.hierarchy) l.place (place_of l.initial.hierarchy written)) l.index (drop l.index l.supertypes)
+      ≡ position_from (λ (written : Written). leads_back (outlines l.initial.hierarchy) l.place (place_of l.initial.hierarchy written)) 0 l.supertypes;
 }

@@ -3,4 +3,4 @@ use Rattle.jsh_header.specs.SuperRules.{interface_named}
 use Rattle.jsh_header.proofs.written.push_interfaces.Given as goal
 
 abbrev pub invariant-loop-name : goal.invariant-loop-name
-invariant-loop-name l = l.writtens.items ≡ l.initial.writtens.items ++ map interface_named (take l.name-index l.names)
+invariant-loop-name l = l.supertypes.items ≡ l.initial.supertypes.items ++ map interface_named (take l.name-index l.names)

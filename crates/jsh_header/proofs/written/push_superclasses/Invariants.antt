@@ -3,4 +3,4 @@ use Rattle.jsh_header.specs.SuperRules.{superclass_named}
 use Rattle.jsh_header.proofs.written.push_superclasses.Given as goal
 
 abbrev pub invariant-loop-name : goal.invariant-loop-name
-invariant-loop-name l = l.writtens.items ≡ l.initial.writtens.items ++ map superclass_named (take l.name-index l.names)
+invariant-loop-name l = l.supertypes.items ≡ l.initial.supertypes.items ++ map superclass_named (take l.name-index l.names)
