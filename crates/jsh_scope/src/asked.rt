@@ -1,6 +1,6 @@
 //! Asking an environment, with a list of what was asked.
 
-ghost use Rattle.std.specs.Prelude.{◌≡◌, [], ◌∷◌, ◌++◌, IfOk, OnOk};
+ghost use Rattle.std.specs.Prelude.{◌≡◌, [], ◌∷◌, ◌++◌, IfOk, OnOk, OnErr};
 ghost use Rattle.jsh_tree.specs.declared.library.Query.TheVariants as query;
 ghost use Rattle.jsh_scope.specs.Answers as spec;
 
@@ -60,6 +60,7 @@ impl<'a> Asked<'a> {
     pub fn type_named(&mut self, name: &Name) -> Result<Option<TypeAnswer<'a>>, NoMemory>
         ensures answer { IfOk result (λ answer. answer ≡ spec.type_named self.old.scope name.now) }
         ensures asked { OnOk result (self.new ≡ record self.old { asked = self.old.asked ++ query.TypeNamed name.now ∷ [] }) }
+        ensures err { OnErr result (self.new ≡ self.old) }
     {
         self.asked.push(Query::TypeNamed(name.clone()?))?;
         Ok(self.env.type_named(name))
@@ -68,6 +69,7 @@ impl<'a> Asked<'a> {
     pub fn var_named(&mut self, name: &Name) -> Result<Option<VarAnswer<'a>>, NoMemory>
         ensures answer { IfOk result (λ answer. answer ≡ spec.var_named self.old.scope name.now) }
         ensures asked { OnOk result (self.new ≡ record self.old { asked = self.old.asked ++ query.VarNamed name.now ∷ [] }) }
+        ensures err { OnErr result (self.new ≡ self.old) }
     {
         self.asked.push(Query::VarNamed(name.clone()?))?;
         Ok(self.env.var_named(name))
@@ -80,9 +82,11 @@ impl<'a> Asked<'a> {
     ) -> Result<Vec<MethodAnswer<'a>>, NoMemory>
         ensures answer { IfOk result (λ answers. answers.items ≡ spec.methods_named self.old.scope name.now) }
         ensures asked { OnOk result (self.new ≡ record self.old { asked = self.old.asked ++ query.MethodsNamed name.now ∷ [] }) }
+        ensures err { OnErr result (self.new ≡ self.old) }
     {
+        let answers = self.env.methods_named(alloc, name)?;
         self.asked.push(Query::MethodsNamed(name.clone()?))?;
-        self.env.methods_named(alloc, name)
+        Ok(answers)
     }
 
     pub fn into_footprint(self) -> Footprint
