@@ -114,15 +114,11 @@ pub said_at_name : (scope : Scope) (place : ℕ) (interface is_abstract : Bool) 
     → sixth ≡ at_its_name scope place interface is_abstract name own
 unfolding at_its_name
 said_at_name scope place interface is_abstract name own some contradicting may opened hides none fourth fifth sixth alike contradicting_is may_is opened_is hides_is none_is fourth_is fifth_is sixth_is =
+    let others = inherited (outlines scope) place in
+    let classes = class_methods (outlines scope) place in
     sixth_is
     ∙ ap (λ (xs : List Breach). xs ++ at_name 6 hides) (fifth_is ∙ ap (λ (xs : List Breach). xs ++ at_name 5 opened) (fourth_is ∙ ap (λ (xs : List Breach). xs ++ at_name 4 contradicting) none_is))
     ∙ ap (λ (b : Bool). (at_name 4 b ++ at_name 5 opened) ++ at_name 6 hides) (contradicting_is ∙ contradiction_alike own some others alike)
     ∙ ap (λ (b : Bool). (at_name 4 (has_contradiction own others) ++ at_name 5 b) ++ at_name 6 hides)
     (opened_is ∙ ap (λ (b : Bool). not b && lacks_body_of classes own some) may_is ∙ ap (λ (b : Bool). not (interface || is_abstract) && b) (lacks_alike classes own some others alike))
     ∙ ap (λ (b : Bool). (at_name 4 (has_contradiction own others) ++ at_name 5 (not (interface || is_abstract) && lacks_body_of classes own others)) ++ at_name 6 b) hides_is
-  where
-    abbrev others : List Signature
-    others = inherited (outlines scope) place
-
-    abbrev classes : List Signature
-    classes = class_methods (outlines scope) place

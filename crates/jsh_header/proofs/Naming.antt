@@ -41,13 +41,13 @@ same_named a wanted name is same = absurd (cc same)
 -- the first that passes is the first among those that pass a weaker test
 pub find_named : (p q : Member → Bool) → ((x : Member) → p x ≡ true → q x ≡ true) → (units : List Member) → find p (filter q units) ≡ find p units
 find_named p q less [] = refl
-find_named p q less (x ∷ xs) = at (cases_Bool (p x)) (cases_Bool (q x))
+find_named p q less (x ∷ xs) = at (cases_Bool (p x)) (cases_Bool (q x)) (find_named p q less xs)
   where
-    at : (p x ≡ true) ⊎ (p x ≡ false) → (q x ≡ true) ⊎ (q x ≡ false) → find p (cond (q x) (x ∷ filter q xs) (filter q xs)) ≡ cond (p x) (Some x) (find p xs)
-    at (inl passes) (inl held) = rw (held, passes) refl
-    at (inl passes) (inr apart) = absurd (both_ways _ apart (less x passes))
-    at (inr fails) (inl held) = rw (held, fails) (find_named p q less xs)
-    at (inr fails) (inr apart) = rw (apart, fails) (find_named p q less xs)
+    at : (p x ≡ true) ⊎ (p x ≡ false) → (q x ≡ true) ⊎ (q x ≡ false) → find p (filter q xs) ≡ find p xs → find p (cond (q x) (x ∷ filter q xs) (filter q xs)) ≡ cond (p x) (Some x) (find p xs)
+    at (inl passes) (inl held) rest = rw (held, passes) refl
+    at (inl passes) (inr apart) rest = absurd (both_ways _ apart (less x passes))
+    at (inr fails) (inl held) rest = rw (held, fails) rest
+    at (inr fails) (inr apart) rest = rw (apart, fails) rest
 
 -- one record more in the set
 pub records_more : (units : List Member) (k : ℕ) (unit : Member) (old new : BTreeSet ℕ) → k < length units → unit ≡ get_or units k unit

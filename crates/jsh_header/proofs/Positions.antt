@@ -1,8 +1,10 @@
 -- The first place that passes, and the classes up from one.
-use Rattle.std.proofs.Common.{◌≡◌, ℕ, zero, suc, ◌+◌, ◌-◌, ◌<◌, ◌≤◌, Bool, true, false, cond, List, [], ◌∷◌, ◌++◌, Option, Some, None, length, get_or, drop, refl, sym, ◌∙◌, ap, arith, append_assoc, append-nil}
-use Rattle.std.proofs.lemmas.List.{at_drop_more, at_drop_all}
+use Rattle.std.proofs.Common.{◌≡◌, ℕ, zero, suc, ◌+◌, ◌-◌, ◌<◌, ◌≤◌, Bool, true, false, cond, List, [], ◌∷◌, ◌++◌, Option, Some, None, length, get_or, take, drop, refl, sym, ◌∙◌, ap, arith, append_assoc, append-nil}
+use Rattle.std.proofs.lemmas.List.{at_drop_more, at_drop_all, take_more}
 use Rattle.std.specs.Prelude.{slice_get}
-use Rattle.std.specs.List.{position_from}
+use Rattle.std.proofs.lemmas.Grind.{flat_map-append}
+use Rattle.std.specs.List.{flat_map, position_from, range_with_len}
+use Rattle.jsh_closure.proofs.Ranges.{range_more}
 use Rattle.jsh_tree.specs.declared.key.Signature.{Signature}
 use Rattle.jsh_header.specs.declared.outlines.Outline.{Outline}
 use Rattle.jsh_header.specs.SuperRules.{methods_at, superclass_at, methods_of, superclasses}
@@ -59,3 +61,23 @@ class_end types n k methods all next past so_far =
   where
     none : 0 ≡ n - k
     none = omega arith
+
+-- what one index more gives
+pub range_step : {A : Type 0} (f : ℕ → List A) (k : ℕ) (initial so_far new : List A) → so_far ≡ initial ++ flat_map f (range_with_len 0 k) → new ≡ so_far ++ f k
+    → new ≡ initial ++ flat_map f (range_with_len 0 (k + 1))
+range_step {A} f k initial so_far new so_far_is new_is =
+    new_is
+    ∙ ap (λ (some : List A). some ++ f k) so_far_is
+    ∙ append_assoc initial (flat_map f (range_with_len 0 k)) (f k)
+    ∙ ap (λ (some : List A). initial ++ some)
+    (ap (λ (last : List A). flat_map f (range_with_len 0 k) ++ last) (sym (append-nil (f k)))
+    ∙ sym (ap (flat_map f) (range_more k) ∙ flat_map-append f (range_with_len 0 k) (k ∷ [])))
+
+-- the methods of one type more
+pub methods_step : (types : List Outline) (places : List ℕ) (k : ℕ) (methods new : List Signature) → k < length places → methods ≡ methods_of types (take k places) → new ≡ methods ++ methods_at (slice_get types (get_or places k 0))
+    → new ≡ methods_of types (take (k + 1) places)
+methods_step types places k methods new below methods_are new_is =
+    new_is
+    ∙ ap (λ (some : List Signature). some ++ methods_at (slice_get types (get_or places k 0))) methods_are
+    ∙ ap (λ (last : List Signature). methods_of types (take k places) ++ last) (sym (append-nil (methods_at (slice_get types (get_or places k 0)))))
+    ∙ sym (ap (methods_of types) (take_more places k 0 below) ∙ flat_map-append (λ (place : ℕ). methods_at (slice_get types place)) (take k places) (get_or places k 0 ∷ []))

@@ -10,7 +10,7 @@ ghost use Rattle.jsh_header.specs.Bad as spec;
 
 use crate::hierarchy::Hierarchy;
 use crate::names::Names;
-use crate::places::push_if;
+use crate::places::{member_at, push_if};
 use crate::rules::{Breach, breaches_at};
 use jsh_closure::closure_back;
 use jsh_scope::mentioned_types;
@@ -62,7 +62,7 @@ fn bad_themselves(
 {
     let mut places = Vec::new(alloc);
     for place in 0..live.len() {
-        let bad = is_bad_itself(alloc, hierarchy, place, live.get(place))?;
+        let bad = is_bad_itself(alloc, hierarchy, place, member_at(live, place))?;
         push_if(&mut places, place, bad)?;
     }
     Ok(places)

@@ -147,6 +147,12 @@ fn is_among(places: &[usize], place: usize) -> bool
     places.iter().any(|found| place == *found)
 }
 
+fn outline_at<'t, 'a>(types: &'t [Outline<'a>], place: usize) -> Option<&'t Outline<'a>>
+    ensures { option_copied result ≡ slice_get types.now place }
+{
+    types.get(place)
+}
+
 fn direct_at<'t>(types: &'t [Outline<'_>], place: usize) -> &'t [usize]
     ensures { result.now ≡ spec.direct_at (slice_get types.now place) }
 {
@@ -174,7 +180,7 @@ fn methods_at_all<'a>(
 {
     let mut methods = Vec::new(alloc);
     for place in places {
-        push_methods_at(&mut methods, types.get(*place))?;
+        push_methods_at(&mut methods, outline_at(types, *place))?;
     }
     Ok(methods)
 }
@@ -214,7 +220,7 @@ fn class_methods<'a>(
         let Some(place) = next else {
             return Ok(methods);
         };
-        push_methods_at(&mut methods, types.get(place))?;
+        push_methods_at(&mut methods, outline_at(types, place))?;
         next = superclass_at(types, place);
     }
     Ok(methods)

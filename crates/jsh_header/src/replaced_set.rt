@@ -6,7 +6,7 @@ ghost use Rattle.std.specs.Option.{option_copied};
 ghost use Rattle.jsh_closure.specs.Closure.{IsSmallest};
 ghost use Rattle.jsh_header.specs.Replaced as spec;
 
-use crate::places::push_if;
+use crate::places::{member_at, push_if};
 use crate::units::Units;
 use jsh_closure::closure_back;
 use jsh_scope::mentioned_types;
@@ -34,7 +34,7 @@ fn new_places(alloc: Global, old: &Units<'_>, new: &[Member]) -> Result<Vec<usiz
 {
     let mut places = Vec::new(alloc);
     for place in 0..new.len() {
-        let is_new = is_new_at(old, new.get(place));
+        let is_new = is_new_at(old, member_at(new, place));
         push_if(&mut places, place, is_new)?;
     }
     Ok(places)

@@ -8,6 +8,7 @@ ghost use Rattle.jsh_header.specs.SuperRules as spec;
 
 use crate::hierarchy::Hierarchy;
 use crate::outlines::{Method, Outline, methods_of};
+use crate::places::member_at;
 use crate::signatures::{has_contradiction, lacks_body_of};
 use crate::written::{Written, written_supertypes};
 use jsh_text::NoMemory;
@@ -42,7 +43,7 @@ pub fn breaches(
     ensures { IfOk result (λ breaches. breaches ≡ spec.breaches (record { members = live.now; library = library.now }) place) }
 {
     let mut hierarchy = Hierarchy::new(alloc, live, library)?;
-    breaches_at(alloc, &mut hierarchy, place, live.get(place))
+    breaches_at(alloc, &mut hierarchy, place, member_at(live, place))
 }
 
 pub(crate) fn breaches_at(

@@ -9,6 +9,7 @@ ghost use Rattle.jsh_closure.specs.Closure.{places_at};
 ghost use Rattle.jsh_header.specs.Replaced as spec;
 ghost use Rattle.jsh_header.specs.Units.{has_name, name_of, HasRecords};
 
+use crate::places::member_at;
 use jsh_scope::append_place;
 use jsh_text::NoMemory;
 use jsh_tree::{Key, Member, Name, Seq};
@@ -136,7 +137,7 @@ fn first_among<'a>(units: &'a [Member], places: &[usize], wanted: &Key) -> Optio
     ensures { option_copied result ≡ spec.of_key wanted.now (flat_map (λ (place : ℕ). option_to_list (slice_get units.now place)) places.now) }
 {
     for place in places {
-        if let Some(unit) = with_key(units.get(*place), wanted) {
+        if let Some(unit) = with_key(member_at(units, *place), wanted) {
             return Some(unit);
         }
     }

@@ -13,11 +13,11 @@ pub loop-place-preserved : goal.loop-place-preserved
 loop-place-preserved c =
     let scope = c.args.hierarchy.now in
     let place = c.loop-place.place in
-    let member = option_copied c.get.result in
+    let member = option_copied c.member_at.result in
     let bad_is : c.in_ok-bad.bad ≡ is_bad_itself scope place =
     c.in_ok-bad.ensures.bad
     ∙ ap (λ (some : Scope). lacks_at some member || is_nonempty (breaches_at some place member)) c.loop-place.invariant.kept
-    ∙ ap (λ (one : Option Member). lacks_at scope one || is_nonempty (breaches_at scope place one)) (c.get.ensures.value ∙ ap (λ (live : List Member). slice_get live place) (sym c.requires)) in
+    ∙ ap (λ (one : Option Member). lacks_at scope one || is_nonempty (breaches_at scope place one)) (c.member_at.ensures ∙ ap (λ (live : List Member). slice_get live place) (sym c.requires)) in
     record {
       kept = c.is_bad_itself-bad.ensures.kept ∙ c.loop-place.invariant.kept;
       found = filter_step (is_bad_itself scope) place c.in_ok-bad.bad c.loop-place.places.items c.push_if.new.places.items c.loop-place.invariant.found bad_is c.in_ok-push_if.ensures;

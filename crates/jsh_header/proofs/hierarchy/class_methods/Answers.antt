@@ -8,8 +8,8 @@ pub loop-step-preserved : goal.loop-step-preserved
 loop-step-preserved c =
     let types = c.args.types.now in
     class_step types (length types) c.loop-step._step c.in-Some.place c.loop-step.methods.items c.push_methods_at.new.methods.items _ c.loop-step.next c.superclass_at-next.result
-    (omega (arith, c.len.ensures, c.loop-step-test.true)) c.in-Some.is
-    (c.in_ok-push_methods_at.ensures ∙ ap (λ (of : Option Outline). c.loop-step.methods.items ++ methods_at of) c.get.ensures.value)
+    (omega (arith, c.loop-step-test.true)) c.in-Some.is
+    (c.in_ok-push_methods_at.ensures ∙ ap (λ (of : Option Outline). c.loop-step.methods.items ++ methods_at of) c.outline_at.ensures)
     c.superclass_at-next.ensures c.loop-step.invariant
 
 pub returns-in_default : goal.returns-in_default
@@ -22,4 +22,4 @@ pub returns : goal.returns
 unfolding class_methods
 returns c =
     let types = c.args.types.now in
-    class_end types (length types) c.loop-step._step c.loop-step.methods.items _ c.loop-step.next (omega (arith, c.len.ensures, c.loop-step-test.false)) c.loop-step.invariant
+    class_end types (length types) c.loop-step._step c.loop-step.methods.items _ c.loop-step.next (omega (arith, c.loop-step-test.false)) c.loop-step.invariant

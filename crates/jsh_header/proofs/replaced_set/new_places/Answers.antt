@@ -10,4 +10,4 @@ loop-place-preserved c =
     let new = c.args.new.now in
     let place = c.loop-place.place in
     filter_step (is_new_place old new) place c.is_new_at-is_new.result c.loop-place.places.items c.push_if.new.places.items c.loop-place.invariant
-    (c.is_new_at-is_new.ensures ∙ ap (is_new_at old) c.get.ensures.value) c.in_ok-push_if.ensures
+    (c.is_new_at-is_new.ensures ∙ ap (is_new_at old) c.member_at.ensures) c.in_ok-push_if.ensures

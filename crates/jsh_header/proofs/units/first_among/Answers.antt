@@ -10,14 +10,14 @@ pub returns-in-Some : goal.returns-in-Some
 returns-in-Some c =
     let units = c.args.units.now in
     let wanted = c.args.wanted.now in
-    sym (found_here units wanted c.args.places.now c.loop-place.place-index c.in-Some.unit.now c.loop-place-test.true (c.in-Some.ensures ∙ ap (λ (one : Option Member). of_key wanted (option_to_list one)) c.get.ensures.value))
+    sym (found_here units wanted c.args.places.now c.loop-place.place-index c.in-Some.unit.now c.loop-place-test.true (c.in-Some.ensures ∙ ap (λ (one : Option Member). of_key wanted (option_to_list one)) c.member_at.ensures))
     ∙ c.loop-place.invariant
 
 pub loop-place-preserved : goal.loop-place-preserved
 loop-place-preserved c =
     let units = c.args.units.now in
     let wanted = c.args.wanted.now in
-    sym (found_later units wanted c.args.places.now c.loop-place.place-index c.loop-place-test.true (c.in_default.ensures ∙ ap (λ (one : Option Member). of_key wanted (option_to_list one)) c.get.ensures.value))
+    sym (found_later units wanted c.args.places.now c.loop-place.place-index c.loop-place-test.true (c.in_default.ensures ∙ ap (λ (one : Option Member). of_key wanted (option_to_list one)) c.member_at.ensures))
     ∙ c.loop-place.invariant
 
 pub returns : goal.returns
