@@ -83,13 +83,7 @@ fn class_header(alloc: Global, text: &str, field: &str) -> Result<Header, Fail> 
     })
 }
 
-fn class(
-    alloc: Global,
-    id: u32,
-    text: &str,
-    field: &str,
-    visible: bool,
-) -> Result<Member, Fail> {
+fn class(alloc: Global, id: u32, text: &str, field: &str, visible: bool) -> Result<Member, Fail> {
     let link = if visible {
         Some(Link {
             key: class_key(alloc, text)?,
@@ -199,6 +193,7 @@ fn said_of_type(env: &Env, asked: &Name) -> Said {
 }
 
 const ATOMIC: &[&str] = &["java", "util", "concurrent", "atomic", "AtomicInteger"];
+
 const ATOMICS: &[&str] = &["java", "util", "concurrent", "atomic"];
 
 const TYPES: [(&[Row], &str, Said); 9] = [
@@ -218,10 +213,7 @@ const TYPES: [(&[Row], &str, Said); 9] = [
     ),
     (&[Row::Class("A", "B", false)], "A", Said::NotVisible),
     (
-        &[
-            Row::Import(ATOMIC),
-            Row::Class("AtomicInteger", "B", false),
-        ],
+        &[Row::Import(ATOMIC), Row::Class("AtomicInteger", "B", false)],
         "AtomicInteger",
         Said::NotVisible,
     ),
@@ -264,8 +256,11 @@ fn said_of_variable(env: &Env, asked: &Name, of: &str) -> Said {
 }
 
 const INTEGER: &[&str] = &["java", "lang", "Integer"];
+
 const INTEGER_MAX: &[&str] = &["java", "lang", "Integer", "MAX_VALUE"];
+
 const LONG: &[&str] = &["java", "lang", "Long"];
+
 const LONG_MAX: &[&str] = &["java", "lang", "Long", "MAX_VALUE"];
 
 /// The snippets, the type that `MAX_VALUE` is of, and what it is said to be.
@@ -316,7 +311,9 @@ fn variables_are_found(rt: HostRuntime) -> Result<(), Fail> {
 }
 
 const MATH: &[&str] = &["java", "lang", "Math"];
+
 const MATH_ABS: &[&str] = &["java", "lang", "Math", "abs"];
+
 const STRICT_MATH: &[&str] = &["java", "lang", "StrictMath"];
 
 /// The snippets, the name, and whose each answer is: the library's type, or none for a live method.
