@@ -30,20 +30,21 @@ any_flat p f (x ∷ xs) = list_any-append p (f x) (flat_map f xs) ∙ ap (λ (b 
 -- one that stands there and passes
 any_one : (p : ℕ → Bool) (places : List ℕ) (x : ℕ) → is_among places x ≡ true → p x ≡ true → list_any p places ≡ true
 any_one p [] x held passes = absurd (cc held)
-any_one p (y ∷ ys) x held passes = at (or_cases (nat_eq x y) (is_among ys x) held)
+any_one p (y ∷ ys) x held passes = at (or_cases (nat_eq x y) (is_among ys x) held) (λ later. any_one p ys x later passes)
   where
-    at : (nat_eq x y ≡ true) ⊎ (is_among ys x ≡ true) → (p y || list_any p ys) ≡ true
-    at (inl same) = or_left (p y) (list_any p ys) (sym (ap p (eqb-true x y same)) ∙ passes)
-    at (inr later) = or_right (p y) (list_any p ys) (any_one p ys x later passes)
+    at : (nat_eq x y ≡ true) ⊎ (is_among ys x ≡ true) → (is_among ys x ≡ true → list_any p ys ≡ true) → (p y || list_any p ys) ≡ true
+    at (inl same) rest = or_left (p y) (list_any p ys) (sym (ap p (eqb-true x y same)) ∙ passes)
+    at (inr later) rest = or_right (p y) (list_any p ys) (rest later)
 
 -- a part of some places passes no test that these fail
 any_part : (p : ℕ → Bool) (some others : List ℕ) → ((x : ℕ) → is_among some x ≡ true → is_among others x ≡ true) → list_any p some ≡ true → list_any p others ≡ true
 any_part p [] others part found = absurd (cc found)
-any_part p (y ∷ ys) others part found = at (or_cases (p y) (list_any p ys) found)
+any_part p (y ∷ ys) others part found =
+    at (or_cases (p y) (list_any p ys) found) (λ later. any_part p ys others (λ x held. part x (or_right (nat_eq x y) (is_among ys x) held)) later)
   where
-    at : (p y ≡ true) ⊎ (list_any p ys ≡ true) → list_any p others ≡ true
-    at (inl here) = any_one p others y (part y (or_left (nat_eq y y) (is_among ys y) (eq-eqb y y refl))) here
-    at (inr later) = any_part p ys others (λ x held. part x (or_right (nat_eq x y) (is_among ys x) held)) later
+    at : (p y ≡ true) ⊎ (list_any p ys ≡ true) → (list_any p ys ≡ true → list_any p others ≡ true) → list_any p others ≡ true
+    at (inl here) rest = any_one p others y (part y (or_left (nat_eq y y) (is_among ys y) (eq-eqb y y refl))) here
+    at (inr later) rest = rest later
 
 any_places : (p : ℕ → Bool) (some others : List ℕ) → ((x : ℕ) → is_among some x ≡ is_among others x) → list_any p some ≡ list_any p others
 any_places p some others same = same_bool (list_any p some) (list_any p others)

@@ -19,6 +19,6 @@ loop-place-preserved c =
     ∙ ap (λ (some : Scope). lacks_at some member || is_nonempty (breaches_at some place member)) c.loop-place.invariant.kept
     ∙ ap (λ (one : Option Member). lacks_at scope one || is_nonempty (breaches_at scope place one)) (c.member_at.ensures ∙ ap (λ (live : List Member). slice_get live place) (sym c.requires)) in
     record {
-      kept = c.is_bad_itself-bad.ensures.kept ∙ c.loop-place.invariant.kept;
+      kept = c.is_bad_itself.ensures.kept ∙ c.loop-place.invariant.kept;
       found = filter_step (is_bad_itself scope) place c.in_ok-bad.bad c.loop-place.places.items c.push_if.new.places.items c.loop-place.invariant.found bad_is c.in_ok-push_if.ensures;
     }

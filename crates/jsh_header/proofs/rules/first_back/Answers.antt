@@ -22,7 +22,7 @@ loop-index-preserved c =
     let x = c.index-supertypes-index.result in
     let fails : leads scope c.args.place x ≡ false = sym (c.in_ok-back.ensures.leads ∙ ap (λ (some : Scope). leads some c.args.place x) c.loop-index.invariant.kept) ∙ c.if-back.false in
     record {
-      kept = c.leads_back-back.ensures.kept ∙ c.loop-index.invariant.kept;
+      kept = c.leads_back.ensures.kept ∙ c.loop-index.invariant.kept;
       rest = sym (position_later (leads scope c.args.place) c.args.supertypes.now c.loop-index.index x c.loop-index-test.true c.index-supertypes-index.is fails) ∙ c.loop-index.invariant.rest;
     }
 
