@@ -49,7 +49,7 @@ module _ (first : List ℕ) (edges : List (List ℕ)) where
       is_first : (i : ℕ) → get_or m i false ≡ true → is_among first i ≡ true
       is_first i held = first_of i (or_cases (get_or m0 i false) (nat_lt i (length m0) && is_among first i) (sym (adds.marked i) ∙ held))
 
-  marked_below : (m : List Bool) (i : ℕ) → get_or m i false ≡ true → i < length m
+  pub marked_below : (m : List Bool) (i : ℕ) → get_or m i false ≡ true → i < length m
   marked_below m i held = at (cases_Bool (nat_lt i (length m)))
     where
       at : (nat_lt i (length m) ≡ true) ⊎ (nat_lt i (length m) ≡ false) → i < length m
