@@ -32,7 +32,7 @@ module _ (members : List Member) (p : ℕ → Bool) where
       → IsSmallest (length members) p (λ from to. leads members to from) set
   closing_smallest set smallest =
       smallest_same (length members) (is_among (filter p (range_with_len 0 (length members)))) p (has_edge_back edges) mentioned (λ i below. among_filtered p (length members) i below) (λ i j i_below j_below. edge_same i j) set
-          (subst (λ (n : ℕ). IsSmallest n (is_among (filter p (range_with_len 0 (length members)))) (has_edge_back edges) set) count smallest)
+      (subst (λ (n : ℕ). IsSmallest n (is_among (filter p (range_with_len 0 (length members)))) (has_edge_back edges) set) count smallest)
 
   -- what a search along these edges marks
   pub closing_marks : (first : List ℕ) (some : List (List ℕ)) (m : List Bool) → first ≡ filter p (range_with_len 0 (length members)) → some ≡ edges → m ≡ marks_back first some
@@ -44,8 +44,8 @@ module _ (members : List Member) (p : ℕ → Bool) where
       → IsSmallest (length some) (is_among first) (has_edge_back some) set → IsSmallest (length members) p (λ from to. leads members to from) set
   closing_least first some set first_is some_is smallest =
       closing_smallest set
-          (subst (λ (lists : List (List ℕ)). IsSmallest (length lists) (is_among (filter p (range_with_len 0 (length members)))) (has_edge_back lists) set) some_is
-          (subst (λ (places : List ℕ). IsSmallest (length some) (is_among places) (has_edge_back some) set) first_is smallest))
+      (subst (λ (lists : List (List ℕ)). IsSmallest (length lists) (is_among (filter p (range_with_len 0 (length members)))) (has_edge_back lists) set) some_is
+      (subst (λ (places : List ℕ). IsSmallest (length some) (is_among places) (has_edge_back some) set) first_is smallest))
 
 pub map_turned : {A : Type 0} (f : A → Bool) (xs : List A) → map not (map f xs) ≡ map (λ (x : A). not (f x)) xs
 map_turned f [] = refl

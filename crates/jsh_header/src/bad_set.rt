@@ -93,11 +93,7 @@ fn is_nonempty(breaches: &[Breach]) -> bool
     }
 }
 
-fn lacks_at(
-    alloc: Global,
-    names: &Names<'_>,
-    member: Option<&Member>,
-) -> Result<bool, NoMemory>
+fn lacks_at(alloc: Global, names: &Names<'_>, member: Option<&Member>) -> Result<bool, NoMemory>
     ensures { IfOk result (λ lacks. lacks ≡ spec.lacks_at names.now (option_copied member.entry)) }
 {
     match member {

@@ -104,11 +104,7 @@ fn type_place(env: &Env, library: &Library, behind: usize, name: &Name) -> Optio
     }
 }
 
-fn answered_place(
-    library: &Library,
-    behind: usize,
-    answer: Option<TypeAnswer<'_>>,
-) -> Option<usize>
+fn answered_place(library: &Library, behind: usize, answer: Option<TypeAnswer<'_>>) -> Option<usize>
     requires { behind + length library.now.types < 2 ^ 64 }
     ensures { result ≡ spec.answered_place library.now behind answer.entry }
 {

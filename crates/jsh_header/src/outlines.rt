@@ -238,11 +238,7 @@ fn library_superclass(names: &Names<'_>, extends: &Option<Name>) -> Option<usize
     }
 }
 
-fn push_places(
-    places: &mut Vec<usize>,
-    names: &Names<'_>,
-    written: &[Name],
-) -> Result<(), NoMemory>
+fn push_places(places: &mut Vec<usize>, names: &Names<'_>, written: &[Name]) -> Result<(), NoMemory>
     ensures { OnOk result (places.new.items ≡ places.old.items ++ spec.places_of names.now written.now) }
 {
     for name in written {
@@ -313,10 +309,7 @@ fn push_object_method<'a>(
 }
 
 /// The direct supertypes of each type.
-pub(crate) fn edges_of(
-    alloc: Global,
-    types: &[Outline<'_>],
-) -> Result<Seq<Seq<usize>>, NoMemory>
+pub(crate) fn edges_of(alloc: Global, types: &[Outline<'_>]) -> Result<Seq<Seq<usize>>, NoMemory>
     ensures { IfOk result (λ edges. edges ≡ map direct_of types.now) }
 {
     let mut edges = Vec::with_capacity(alloc, types.len())?;

@@ -97,7 +97,13 @@ fn breaches_of(
                 extends.as_slice(),
                 implements.as_slice(),
             )?;
-            push_at_supertypes(&mut breaches, alloc, hierarchy, place, supertypes.as_slice())?;
+            push_at_supertypes(
+                &mut breaches,
+                alloc,
+                hierarchy,
+                place,
+                supertypes.as_slice(),
+            )?;
             Ok(Seq::from_vec(breaches))
         }
         _ => Ok(Seq::new(alloc)),
@@ -120,7 +126,14 @@ fn at_its_name(
     let inherited = hierarchy.inherited(alloc, place)?;
     let contradicts = has_contradiction(own, inherited.as_slice());
     let may_be_open = may_be_open(interface, is_abstract);
-    let opened = is_open(alloc, hierarchy, place, may_be_open, own, inherited.as_slice())?;
+    let opened = is_open(
+        alloc,
+        hierarchy,
+        place,
+        may_be_open,
+        own,
+        inherited.as_slice(),
+    )?;
     let hides = hierarchy.names().is_library_name(name);
     let mut breaches = Vec::new(alloc);
     push_at_name(&mut breaches, 4, contradicts)?;
@@ -209,17 +222,13 @@ fn find_firsts(
 fn first_no_superclass(hierarchy: &Hierarchy<'_>, supertypes: &[Written]) -> Option<usize>
     ensures { result ≡ spec.first_no_superclass hierarchy.now supertypes.now }
 {
-    supertypes
-        .iter()
-        .position(|written| is_no_superclass(written, type_of(hierarchy, written)))
+    supertypes.iter().position(|written| is_no_superclass(written, type_of(hierarchy, written)))
 }
 
 fn first_no_interface(hierarchy: &Hierarchy<'_>, supertypes: &[Written]) -> Option<usize>
     ensures { result ≡ spec.first_no_interface hierarchy.now supertypes.now }
 {
-    supertypes
-        .iter()
-        .position(|written| is_no_interface(written, type_of(hierarchy, written)))
+    supertypes.iter().position(|written| is_no_interface(written, type_of(hierarchy, written)))
 }
 
 fn first_back(
@@ -298,11 +307,7 @@ fn push_at_indexes(
     Ok(())
 }
 
-fn push_at_index(
-    breaches: &mut Vec<Breach>,
-    index: usize,
-    firsts: &Firsts,
-) -> Result<(), NoMemory>
+fn push_at_index(breaches: &mut Vec<Breach>, index: usize, firsts: &Firsts) -> Result<(), NoMemory>
     ensures { OnOk result (breaches.new.items ≡ breaches.old.items ++ spec.at_index firsts.now.no_superclass firsts.now.no_interface firsts.now.back index) }
 {
     push_at_supertype(breaches, index, 1, firsts.no_superclass)?;

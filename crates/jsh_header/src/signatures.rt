@@ -60,9 +60,7 @@ fn contradicts_either(own: &[Method<'_>], others: &[Method<'_>], method: &Signat
 pub(crate) fn has_contradiction(own: &[Method<'_>], others: &[Method<'_>]) -> bool
     ensures { result ≡ spec.has_contradiction own.now others.now }
 {
-    others
-        .iter()
-        .any(|method| contradicts_either(own, others, method.signature()))
+    others.iter().any(|method| contradicts_either(own, others, method.signature()))
 }
 
 fn first_of<'t, 'a>(methods: &'t [Method<'a>], method: &Signature) -> Option<&'t Method<'a>>

@@ -22,18 +22,8 @@ enum Row {
     /// Its name and the types of its fields.
     Data(&'static str, &'static [&'static str]),
     /// Its name, its superclass, its interfaces and its methods.
-    Class(
-        &'static str,
-        &'static [&'static str],
-        &'static [&'static str],
-        &'static [Own],
-    ),
-    AbstractClass(
-        &'static str,
-        &'static [&'static str],
-        &'static [&'static str],
-        &'static [Own],
-    ),
+    Class(&'static str, &'static [&'static str], &'static [&'static str], &'static [Own]),
+    AbstractClass(&'static str, &'static [&'static str], &'static [&'static str], &'static [Own]),
     /// Its name, its interfaces and its methods.
     Interface(&'static str, &'static [&'static str], &'static [Own]),
     /// Its name and its type.
@@ -150,10 +140,24 @@ fn header(alloc: Global, row: Row) -> Result<Header, Fail> {
             type_header(alloc, (false, false), text, (&[], &[]), types, &[])
         }
         Row::Class(text, extends, implements, methods) => {
-            type_header(alloc, (false, false), text, (extends, implements), &[], methods)
+            type_header(
+                alloc,
+                (false, false),
+                text,
+                (extends, implements),
+                &[],
+                methods,
+            )
         }
         Row::AbstractClass(text, extends, implements, methods) => {
-            type_header(alloc, (false, true), text, (extends, implements), &[], methods)
+            type_header(
+                alloc,
+                (false, true),
+                text,
+                (extends, implements),
+                &[],
+                methods,
+            )
         }
         Row::Interface(text, extends, methods) => {
             type_header(alloc, (true, false), text, (extends, &[]), &[], methods)
@@ -219,8 +223,11 @@ fn live(alloc: Global, rows: &[Row]) -> Result<Vec<Member>, Fail> {
 }
 
 const A_HAS_B: Row = Row::Data("A", &["B"]);
+
 const B_HAS_A: Row = Row::Data("B", &["A"]);
+
 const B_HAS_C: Row = Row::Data("B", &["C"]);
+
 const C_HAS_A: Row = Row::Data("C", &["A"]);
 
 /// The live snippets, and which of them are bad.
@@ -234,18 +241,33 @@ const BAD: [(&[Row], &[bool]); 14] = [
     (&[A_HAS_B, B_HAS_C], &[true, true]),
     (&[B_HAS_C, C_HAS_A], &[true, true]),
     (
-        &[Row::Data("A", &["int", "String"]), Row::Class("C", &["C"], &[], &[])],
+        &[
+            Row::Data("A", &["int", "String"]),
+            Row::Class("C", &["C"], &[], &[]),
+        ],
         &[false, true],
     ),
-    (&[A_HAS_B, Row::Var("x", "A"), Row::Var("y", "int")], &[true, true, false]),
-    (&[Row::Method("f", "A", &[]), Row::Data("A", &[])], &[false, false]),
-    (&[Row::Method("f", "void", &["B"]), Row::Data("A", &[])], &[true, false]),
+    (
+        &[A_HAS_B, Row::Var("x", "A"), Row::Var("y", "int")],
+        &[true, true, false],
+    ),
+    (
+        &[Row::Method("f", "A", &[]), Row::Data("A", &[])],
+        &[false, false],
+    ),
+    (
+        &[Row::Method("f", "void", &["B"]), Row::Data("A", &[])],
+        &[true, false],
+    ),
     (
         &[Row::Data("String", &[]), Row::Var("s", "String")],
         &[true, true],
     ),
     (
-        &[Row::Class("A", &["String"], &[], &[]), Row::Data("B", &["A"])],
+        &[
+            Row::Class("A", &["String"], &[], &[]),
+            Row::Data("B", &["A"]),
+        ],
         &[true, true],
     ),
 ];
@@ -337,6 +359,7 @@ fn one_name_makes_a_chain_visible(rt: HostRuntime) -> Result<(), Fail> {
 }
 
 const RUN: Own = Own::Body("run", "void", &[]);
+
 const ABSTRACT_RUN: Own = Own::Abstract("run", "void", &[]);
 
 /// The live snippets, the place of a type, and the rules that it breaks with the index of the
@@ -345,9 +368,16 @@ const BREACHES: [(&[Row], usize, &[(u8, Option<usize>)]); 25] = [
     (&[], 0, &[]),
     (&[Row::Var("x", "B")], 0, &[]),
     (&[Row::Data("A", &["B"])], 0, &[]),
-    (&[Row::Class("A", &["String"], &[], &[])], 0, &[(1, Some(0))]),
     (
-        &[Row::Interface("I", &[], &[]), Row::Class("A", &["I"], &[], &[])],
+        &[Row::Class("A", &["String"], &[], &[])],
+        0,
+        &[(1, Some(0))],
+    ),
+    (
+        &[
+            Row::Interface("I", &[], &[]),
+            Row::Class("A", &["I"], &[], &[]),
+        ],
         1,
         &[(1, Some(0))],
     ),
@@ -363,7 +393,10 @@ const BREACHES: [(&[Row], usize, &[(u8, Option<usize>)]); 25] = [
     ),
     (&[Row::Class("A", &["A"], &[], &[])], 0, &[(3, Some(0))]),
     (
-        &[Row::Interface("I", &["J"], &[]), Row::Interface("J", &["I"], &[])],
+        &[
+            Row::Interface("I", &["J"], &[]),
+            Row::Interface("J", &["I"], &[]),
+        ],
         1,
         &[(3, Some(0))],
     ),
@@ -397,7 +430,12 @@ const BREACHES: [(&[Row], usize, &[(u8, Option<usize>)]); 25] = [
     (
         &[
             Row::Interface("I", &[], &[Own::Abstract("m", "int", &[])]),
-            Row::Class("A", &[], &["I"], &[Own::Body("m", "int", &[]), Own::Body("m", "void", &["int"])]),
+            Row::Class(
+                "A",
+                &[],
+                &["I"],
+                &[Own::Body("m", "int", &[]), Own::Body("m", "void", &["int"])],
+            ),
         ],
         1,
         &[],
@@ -437,7 +475,10 @@ const BREACHES: [(&[Row], usize, &[(u8, Option<usize>)]); 25] = [
     ),
     (&[Row::Data("Thread", &[])], 0, &[(6, None)]),
     (
-        &[Row::Data("B", &[]), Row::Class("A", &["String"], &["B"], &[])],
+        &[
+            Row::Data("B", &[]),
+            Row::Class("A", &["String"], &["B"], &[]),
+        ],
         1,
         &[(1, Some(0)), (2, Some(1))],
     ),
@@ -452,16 +493,16 @@ const BREACHES: [(&[Row], usize, &[(u8, Option<usize>)]); 25] = [
         &[(5, None), (6, None), (1, Some(0))],
     ),
     (
-        &[Row::Data("Runnable", &[]), Row::Class("A", &[], &["Runnable"], &[])],
+        &[
+            Row::Data("Runnable", &[]),
+            Row::Class("A", &[], &["Runnable"], &[]),
+        ],
         1,
         &[(2, Some(0))],
     ),
 ];
 
-fn as_breaches(
-    alloc: Global,
-    rows: &[(u8, Option<usize>)],
-) -> Result<Vec<Breach>, Fail> {
+fn as_breaches(alloc: Global, rows: &[(u8, Option<usize>)]) -> Result<Vec<Breach>, Fail> {
     let mut breaches = Vec::new(alloc);
     for (rule, supertype) in rows {
         breaches.push(Breach {
@@ -578,6 +619,7 @@ fn interfaces_count_from_the_first(rt: HostRuntime) -> Result<(), Fail> {
 }
 
 const EMPTY_A: Row = Row::Data("A", &[]);
+
 const FULL_A: Row = Row::Data("A", &["int"]);
 
 /// The old units, the new ones with the ids of their records, and which of the new ones are replaced.
@@ -612,13 +654,22 @@ const REPLACED: [(&[(u32, Row)], &[(u32, Row)], &[bool]); 8] = [
         &[false, false],
     ),
     (
-        &[(1, Row::Method("f", "int", &[])), (2, Row::Method("g", "int", &[]))],
-        &[(2, Row::Method("g", "int", &[])), (3, Row::Method("f", "long", &[]))],
+        &[
+            (1, Row::Method("f", "int", &[])),
+            (2, Row::Method("g", "int", &[])),
+        ],
+        &[
+            (2, Row::Method("g", "int", &[])),
+            (3, Row::Method("f", "long", &[])),
+        ],
         &[false, true],
     ),
     (
         &[(1, Row::Method("f", "int", &[]))],
-        &[(1, Row::Method("f", "int", &[])), (2, Row::Method("f", "int", &["int"]))],
+        &[
+            (1, Row::Method("f", "int", &[])),
+            (2, Row::Method("f", "int", &["int"])),
+        ],
         &[false, true],
     ),
     (

@@ -63,10 +63,7 @@ impl<'a> Units<'a> {
     }
 }
 
-fn places_by_name(
-    alloc: Global,
-    units: &[Member],
-) -> Result<BTreeMap<Name, Seq<usize>>, NoMemory>
+fn places_by_name(alloc: Global, units: &[Member]) -> Result<BTreeMap<Name, Seq<usize>>, NoMemory>
     ensures { IfOk result (λ places. IsIndexOfAll has_name units.now units.now places) }
 {
     let mut places = BTreeMap::new(alloc);
