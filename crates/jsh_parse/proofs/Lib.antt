@@ -20,6 +20,8 @@ pub mod Onward
 pub mod Passing
 pub mod Rooms
 pub mod Turns
+pub mod Shortening
+pub mod RunLemmas
 pub mod Pieced
 pub mod LeafOnward
 pub mod LabelOnward
