@@ -22,6 +22,7 @@ pub mod Rooms
 pub mod Turns
 pub mod Shortening
 pub mod RunLemmas
+pub mod RunTurns
 pub mod Pieced
 pub mod LeafOnward
 pub mod LabelOnward

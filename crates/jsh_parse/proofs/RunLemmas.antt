@@ -13,9 +13,9 @@ use Rattle.jsh_parse.specs.declared.runs.Run.{Run}
 use Rattle.jsh_parse.specs.declared.runs.Waiting.{Waiting}
 use Rattle.jsh_parse.specs.Reader.{Read, and_then, type_read, operations, with_operations}
 use Rattle.jsh_parse.specs.Reading.{Reads, operator_at, operation_at, operations_at, level_at, unary_at}
-use Rattle.jsh_parse.specs.Runs.{begun, with_further, with_operand, raised, rising, risen, resumed, levels, Leaves}
+use Rattle.jsh_parse.specs.Runs.{begun, type_tested, with_further, with_operand, raised, rising, risen, resumed, levels, Leaves}
 use Rattle.jsh_parse.proofs.Gives.{Gives}
-use Rattle.jsh_parse.proofs.Onward.{further, step_end, assoc, same, operations_more, operation_none, operation_type, operation_operator, level_zero, level_suc}
+use Rattle.jsh_parse.proofs.Onward.{further, assoc, same, operations_more, operation_none, operation_type, operation_operator, level_zero, level_suc}
 use Rattle.jsh_parse.proofs.Shortening.{Fewer, operation_shortens}
 
 -- the operations of a level, one after another, however many are allowed
@@ -99,13 +99,14 @@ module _ (text : List ℕ) (room : ℕ) (run : Run) (ts : List Token) where
       ap (λ r. and_then r (risen_by text room (run.height - (run.lower + 1)) run.first run.rest run.lower)) (operation_none text room run.lower ts h)
 
   pub risen_tested : run.lower < run.height → operator_at run.lower ts ≡ Some None →
-      risen text room run ts ≡ and_then (type_read text (drop 1 ts)) (λ target behind. risen text room (with_further run (operation.InstanceOf target)) behind)
+      risen text room run ts ≡ and_then (type_tested text (drop 1 ts)) (λ o behind. risen text room (with_further run o) behind)
   risen_tested l h =
       let whole : suc (run.height - (run.lower + 1)) ≡ run.height - run.lower = omega arith in
       risen_by_one l ∙
       ap (λ r. and_then r (risen_by text room (run.height - (run.lower + 1)) run.first run.rest run.lower)) (operation_type text room run.lower ts h) ∙
       assoc (type_read text (drop 1 ts)) (λ target rest. Some (Some (operation.InstanceOf target), rest)) (risen_by text room (run.height - (run.lower + 1)) run.first run.rest run.lower) ∙
-      ap (λ n. and_then (type_read text (drop 1 ts)) (λ target behind. rising text room n run.first (run.rest ++ operation.InstanceOf target ∷ []) run.lower behind)) whole
+      ap (λ n. and_then (type_read text (drop 1 ts)) (λ target behind. rising text room n run.first (run.rest ++ operation.InstanceOf target ∷ []) run.lower behind)) whole ∙
+      sym (assoc (type_read text (drop 1 ts)) (λ target rest. Some (operation.InstanceOf target, rest)) (λ o behind. risen text room (with_further run o) behind))
 
   pub risen_pushed : (op : BinaryOperator) → run.lower < run.height → operator_at run.lower ts ≡ Some (Some op) →
       risen text room run ts ≡ and_then (level_at text room run.lower (drop 1 ts)) (λ operand behind. risen text room (with_further run (operation.Operator op operand)) behind)

@@ -13,7 +13,7 @@ use Rattle.jsh_parse.specs.declared.runs.Next.TheVariants as next
 use Rattle.jsh_parse.specs.declared.runs.Turn.{Turn}
 use Rattle.jsh_parse.specs.declared.runs.Turn.TheVariants as turn
 use Rattle.jsh_parse.specs.Reader.{Read, and_then, type_read, with_operations}
-use Rattle.jsh_parse.specs.Reading.{Reads, level_at, operations_at}
+use Rattle.jsh_parse.specs.Reading.{level_at, operations_at}
 
 -- an operand alone
 abbrev pub begun : Expr → ℕ → Run
@@ -29,6 +29,10 @@ with_operand w operand = with_further w.run (operation.Operator w.operator opera
 -- the run of the next level
 abbrev pub raised : Run → Run
 raised run = record { first = with_operations run.first run.rest; rest = []; lower = run.lower + 1; height = run.height }
+
+-- what the value so far may be an instance of, from behind the word
+abbrev pub type_tested : List ℕ → List Token → Read Operation
+type_tested text ts = and_then (type_read text ts) (λ target rest. Some (operation.InstanceOf target, rest))
 
 -- the further operations of a level, and those of the levels behind it, of so many in all
 unfoldable pub rising : List ℕ → ℕ → ℕ → Expr → List Operation → ℕ → List Token → Read Expr
@@ -60,10 +64,6 @@ Leaves left whole (Ok a) = whole ≡ left a
 Leaves left whole (Err error.NoMemory) = Unit {0}
 Leaves left whole (Err (error.Wanted place wanted)) = whole ≡ None
 Leaves left whole (Err (error.TooDeep limit)) = (whole ≡ None) × (limit ≡ 256)
-
--- a type was read behind a run
-abbrev pub Tests : List ℕ → List Token → ℕ → Run → Result (Run × ℕ) ParseError → Type 0
-Tests text tokens at run result = Reads tokens at (and_then (type_read text (drop at tokens)) (λ target rest. Some (with_further run (operation.InstanceOf target), rest))) result
 
 -- the run that waits last has its operand, or none waits
 abbrev pub Completes : List Waiting → List Waiting → Run → ℕ → Result Turn ParseError → Type 0

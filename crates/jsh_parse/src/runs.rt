@@ -2,7 +2,7 @@
 //! in memory and not in frames, so that the parser calls itself only for what stands one deeper.
 
 ghost use Rattle.std.specs.Prelude.{◌≡◌, ℕ, ◌+◌, ◌<◌, ◌≤◌, [], length, drop, IfOk};
-ghost use Rattle.jsh_tree.specs.declared.expression.Operation.TheVariants as operation;
+ghost use Rattle.jsh_parse.specs.Reading.{Reads};
 ghost use Rattle.jsh_parse.specs.Runs as runs;
 ghost use Rattle.jsh_parse.specs.Runs.{Leaves, after, after_turn, resumed, risen, work, GoesOn, TurnGoesOn};
 
@@ -86,8 +86,8 @@ fn step(input: &Input, waiting: &mut Vec<Waiting>, run: Run, at: usize) -> Resul
         return Ok(Turn::Onward(raised(input.alloc, run)?, at));
     };
     let Some(operator) = found else {
-        let (longer, end) = tested(input, run, at + 1)?;
-        return Ok(Turn::Onward(longer, end));
+        let (further, end) = tested(input, at + 1)?;
+        return Ok(Turn::Onward(with_further(run, further)?, end));
     };
     let height = run.lower;
     waiting.push(Waiting { run, operator })?;
@@ -151,15 +151,15 @@ fn raised(alloc: Global, run: Run) -> Result<Run, AllocError>
     })
 }
 
-/// A run with a type behind it that its value may be an instance of, from behind the word.
-fn tested(input: &Input, run: Run, at: usize) -> Result<(Run, usize), ParseError>
-    ensures { runs.Tests input.now.text.now input.now.tokens.now at run result }
+/// What the value so far may be an instance of, from behind the word.
+fn tested(input: &Input, at: usize) -> Result<(Boxed<Operation>, usize), ParseError>
+    ensures { Reads input.now.tokens.now at (runs.type_tested input.now.text.now (drop at input.now.tokens.now)) result }
 {
     let (target, end) = type_use(input, at)?;
-    let further = instance_of(input.alloc, target)?;
-    Ok((with_further(run, further)?, end))
+    Ok((instance_of(input.alloc, target)?, end))
 }
 
+/// A run with one operation more.
 fn with_further(run: Run, further: Boxed<Operation>) -> Result<Run, AllocError>
     ensures { IfOk result (λ longer. longer ≡ runs.with_further run further) }
 {
