@@ -1,5 +1,6 @@
 -- What each kind of turn leaves to be read, and how much is to be done behind it.
 use Rattle.std.proofs.Common.{◌≡◌, ℕ, zero, suc, ◌+◌, ◌-◌, ◌<◌, ◌≤◌, List, [], ◌∷◌, ◌++◌, Option, Some, None, length, drop, refl, sym, ap, ◌∙◌, subst, arith}
+use Rattle.std.proofs.Math.Nat.{le_trans}
 use Rattle.std.specs.Prelude.{Result, Ok, Err, IfOk}
 use Rattle.jsh_tree.specs.declared.token.Token.{Token}
 use Rattle.jsh_tree.specs.declared.expression.BinaryOperator.{BinaryOperator}
@@ -98,23 +99,10 @@ done_complete n before behind run at (Ok (turn.Onward longer end)) l h =
     let low : longer.lower ≡ h.0.run.lower = ap (λ (r : Run). r.lower) h.2 in
     let more : levels before ≡ levels behind + (h.0.run.height - h.0.run.lower + 1) = ap levels h.1 ∙ levels_push behind h.0 in
     (omega arith, omega arith)
-done_complete n before behind run at (Ok (turn.Ends (next.Whole e end))) l h = let same : end ≡ at = h.2 in omega arith
+done_complete n before behind run at (Ok (turn.Ends (next.Whole e end))) l h = let same : end ≡ at = h.2 in let reached : at ≤ end = omega arith in reached
 done_complete n before behind run at (Ok (turn.Ends (next.Operand place height))) l h = absurd h
 done_complete n before behind run at (Err e) l h = tt
 
-pub done_raised : (n : ℕ) (ws : List Waiting) (run higher : Run) (at : ℕ) → run.lower < run.height → higher ≡ raised run → (at ≤ at) × (work n ws higher at < work n ws run at)
-done_raised n ws run higher at l e =
-    let high : higher.height ≡ run.height = ap (λ (r : Run). r.height) e in
-    let low : higher.lower ≡ run.lower + 1 = ap (λ (r : Run). r.lower) e in
-    (omega arith, omega arith)
-
-pub done_tested : (n : ℕ) (ws : List Waiting) (run longer : Run) (o : Operation) (at end : ℕ) → at < n → at + 1 ≤ end → longer ≡ with_further run o →
-    (at ≤ end) × (work n ws longer end < work n ws run at)
-done_tested n ws run longer o at end i f e =
-    let high : longer.height ≡ run.height = ap (λ (r : Run). r.height) e in
-    let low : longer.lower ≡ run.lower = ap (λ (r : Run). r.lower) e in
-    (omega arith, omega arith)
-
 pub goes_on : (n from at : ℕ) (further : Next) → from ≤ at → GoesOn n at further → GoesOn n from further
-goes_on n from at (next.Whole e end) l h = omega arith
-goes_on n from at (next.Operand place height) l h = (omega (arith, h.0), h.1)
+goes_on n from at (next.Whole e end) l h = le_trans l h
+goes_on n from at (next.Operand place height) l h = let behind : at < place = h.0 in (omega arith, h.1)
