@@ -24,17 +24,15 @@ pub record Standing : Type 0 where
   pub clients : List Bool
   pub closed : Bool
 
+abbrev pub kept_of : ℕ → ℕ → List Bool → Bool → Standing
+kept_of count sources clients closed = record { count = count; sources = sources; clients = clients; closed = closed }
+
 abbrev pub is_closed : List Entry → Bool
 is_closed history = list_any (λ (entry : Entry). is_close entry.act) history
 
 -- where a history stands
 unfoldable pub standing : List Entry → Standing
-standing history = record {
-  count = length history;
-  sources = source_bytes history;
-  clients = (state_of history).clients;
-  closed = is_closed history;
-}
+standing history = kept_of (length history) (source_bytes history) (state_of history).clients (is_closed history)
 
 -- the clients behind an act of one of them
 unfoldable pub clients_after : List Bool → ℕ → Act → List Bool

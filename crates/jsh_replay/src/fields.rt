@@ -1,6 +1,6 @@
 //! Numbers and texts.
 
-ghost use Rattle.std.specs.Prelude.{◌≡◌};
+ghost use Rattle.std.specs.Prelude.{IsErrOf};
 ghost use Rattle.std.specs.Int.{w16, w32, w64};
 ghost use Rattle.jsh_replay.specs.Reading.{Gives, number_at, text_at, text_of};
 
@@ -19,7 +19,8 @@ pub fn u16_at(bytes: &[u8]) -> Result<(u16, &[u8]), Halt>
 }
 
 pub fn u32_at(bytes: &[u8]) -> Result<(u32, &[u8]), Halt>
-    ensures { Gives (λ x. (x.0, x.1.now)) result (number_at w32 bytes.now) }
+    ensures no_memory { IsErrOf result Halt.NoMemory → ⊥ }
+    ensures gives { Gives (λ x. (x.0, x.1.now)) result (number_at w32 bytes.now) }
 {
     if bytes.len() < 4 {
         return Err(Halt::NoItem);

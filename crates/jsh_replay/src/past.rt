@@ -1,6 +1,6 @@
 //! The entries that were read so far, and which may come next.
 
-ghost use Rattle.std.specs.Prelude.{◌≡◌, ◌+◌, ◌<◌, ◌^◌, ◌∷◌, ◌++◌, [], length, IfOk, OnOk, OnErr, vec_len, vec_capacity};
+ghost use Rattle.std.specs.Prelude.{◌≡◌, ◌<◌, ◌&&◌, ◌∷◌, ◌++◌, [], length, IfOk, OnOk, OnErr, vec_len, vec_capacity};
 ghost use Rattle.jsh_core.specs.History.{act_bytes, is_close, target_text, Allows};
 ghost use Rattle.jsh_core.specs.Questions.{question_text};
 ghost use Rattle.jsh_replay.specs.Standing.{standing};
@@ -26,15 +26,15 @@ pub struct Past {
 }
 
 impl Model for Past {
-    ghost use Rattle.std.specs.Prelude.{◌≡◌, List};
+    ghost use Rattle.std.specs.Prelude.{◌≡◌, List, length};
     ghost use Rattle.jsh_snippet.specs.declared.acts.Entry.{Entry};
-    ghost use Rattle.jsh_replay.specs.Standing.{standing};
+    ghost use Rattle.jsh_replay.specs.Standing.{kept_of, standing};
 
     ghost Value = { List Entry };
 
     ghost view = { λ p. p.entries.items };
 
-    ghost invariant = { λ p. record { count = length p.entries.items; sources = p.sources; clients = p.clients.items; closed = p.closed } ≡ standing p.entries.items };
+    ghost invariant = { λ p. kept_of (length p.entries.items) p.sources p.clients.items p.closed ≡ standing p.entries.items };
 }
 
 fn is_there(clients: &[bool], client: u32) -> bool
@@ -98,6 +98,14 @@ fn may_do(count: usize, sources: u64, client: u32, act: &Act) -> bool
     }
 }
 
+/// Whether an entry may come behind what is kept of those before it.
+#[tactic(auto, unfolding(crate::specs::Standing::may_come))]
+fn comes(count: usize, sources: u64, clients: &[bool], closed: bool, entry: &Entry) -> bool
+    ensures { result ≡ spec.may_come (spec.kept_of count sources clients.now closed) entry.now }
+{
+    is_there(clients, entry.client) && !closed && may_do(count, sources, entry.client, &entry.act)
+}
+
 /// The clients behind an entry of one of them.
 #[tactic(auto, unfolding(crate::specs::Standing::clients_after))]
 fn count_clients(clients: &mut Vec<bool>, entry: &Entry) -> Result<(), NoMemory>
@@ -143,9 +151,13 @@ impl Past {
     pub fn may_come(&self, entry: &Entry) -> bool
         ensures { result ≡ spec.may_come (standing self.now) entry.now }
     {
-        is_there(&self.clients, entry.client)
-            && !self.closed
-            && may_do(self.entries.len(), self.sources, entry.client, &entry.act)
+        comes(
+            self.entries.len(),
+            self.sources,
+            &self.clients,
+            self.closed,
+            entry,
+        )
     }
 
     /// An entry comes.

@@ -1,9 +1,8 @@
-ghost use Rattle.std.specs.Prelude.{◌≡◌, ◌+◌, ◌≤◌, ◌<◌, ℕ, List, length, IfOk, IfErr, IfSome, IfNone, MatchResult, OnOk};
+ghost use Rattle.std.specs.Prelude.{◌≡◌, ◌-◌, ◌≤◌, ℕ, List, length, IfOk, IfErr, IfSome, IfNone, MatchResult};
 ghost use Rattle.jsh_snippet.specs.declared.acts.Entry.{Entry};
-ghost use Rattle.jsh_core.specs.History.{Allows};
 ghost use Rattle.jsh_replay.specs.declared.journal_error.JournalError.TheVariants as error;
 ghost use Rattle.jsh_replay.specs.Journal.{BeginsWithEntry, IsBadPlace, IsJournal, IsNext};
-ghost use Rattle.jsh_replay.specs.Faults.{HasCause, IsAt, IsShortOr};
+ghost use Rattle.jsh_replay.specs.Faults.{HasCause, IsShortOr};
 
 use crate::entries::{behind_end, behind_header, entry_at};
 use crate::halt::Halt;
@@ -35,14 +34,8 @@ fn next_entry<'a>(
     }
 }
 
-/// The history whose journal these bytes are. It goes over them once.
-pub fn read_journal(alloc: Global, bytes: &[u8]) -> Result<Vec<Entry>, JournalError>
-    ensures journal { IfOk result (λ history. IsJournal bytes.now history.items) }
-    ensures place { IfErr result (HasCause bytes.now) }
-
-    // There is no other answer but want of memory.
-    ensures journals { (history : List Entry) → IsJournal bytes.now history → MatchResult result (λ found. found.items ≡ history) (λ e. e ≡ error.NoMemory) }
-    ensures places { (place : ℕ) → IsBadPlace bytes.now place → MatchResult result (λ found. ⊥) (λ e. IsShortOr place e) }
+fn read_items(alloc: Global, bytes: &[u8]) -> Result<Vec<Entry>, JournalError>
+    ensures { MatchResult result (λ history. IsJournal bytes.now history.items) (λ why. HasCause bytes.now why) }
 {
     let Some(behind) = behind_header(bytes) else {
         return Err(JournalError::BadJournal { place: 0 });
@@ -54,16 +47,30 @@ pub fn read_journal(alloc: Global, bytes: &[u8]) -> Result<Vec<Entry>, JournalEr
         rest = after;
     }
     match behind_end(past.len(), rest) {
-        None => Err(JournalError::BadJournal {
-            place: (bytes.len() - rest.len()) as u64,
-        }),
-        Some(more) => {
-            if !more.is_empty() {
-                return Err(JournalError::BadJournal {
-                    place: (bytes.len() - more.len()) as u64,
-                });
-            }
-            Ok(past.into_entries())
-        }
+        None => Err(bad_journal(bytes, rest)),
+        Some([]) => Ok(past.into_entries()),
+        Some(more) => Err(bad_journal(bytes, more)),
     }
+}
+
+/// The bytes are bad where this rest of them begins.
+fn bad_journal(bytes: &[u8], rest: &[u8]) -> JournalError
+    requires { length rest.now ≤ length bytes.now }
+    ensures { result ≡ error.BadJournal (length bytes.now - length rest.now) }
+{
+    JournalError::BadJournal {
+        place: (bytes.len() - rest.len()) as u64,
+    }
+}
+
+/// The history whose journal these bytes are. It goes over them once.
+pub fn read_journal(alloc: Global, bytes: &[u8]) -> Result<Vec<Entry>, JournalError>
+    ensures journal { IfOk result (λ history. IsJournal bytes.now history.items) }
+    ensures place { IfErr result (λ why. HasCause bytes.now why) }
+
+    // There is no other answer but want of memory.
+    ensures journals { (history : List Entry) → IsJournal bytes.now history → MatchResult result (λ found. found.items ≡ history) (λ why. why ≡ error.NoMemory) }
+    ensures places { (place : ℕ) → IsBadPlace bytes.now place → MatchResult result (λ found. ⊥) (λ why. IsShortOr place why) }
+{
+    read_items(alloc, bytes)
 }

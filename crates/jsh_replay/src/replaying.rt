@@ -37,16 +37,22 @@ fn replies_to<L: Ledger>(
     Ok(replies)
 }
 
-/// The replies of the one-thread engine to the history whose journal these bytes are.
-pub fn replay(alloc: Global, bytes: &[u8]) -> Result<Vec<Reply>, JournalError>
-    ensures replies { IfOk result (λ replies. IsReplay bytes.now replies.items) }
-    ensures place { IfErr result (HasCause bytes.now) }
-
-    // There is no other answer but want of memory.
-    ensures journals { (history : List Entry) → IsJournal bytes.now history → MatchResult result (λ replies. replies.items ≡ replies_of history) (λ e. e ≡ error.NoMemory) }
-    ensures places { (place : ℕ) → IsBadPlace bytes.now place → MatchResult result (λ replies. ⊥) (λ e. IsShortOr place e) }
+fn replayed(alloc: Global, bytes: &[u8]) -> Result<Vec<Reply>, JournalError>
+    ensures { MatchResult result (λ replies. IsReplay bytes.now replies.items) (λ why. HasCause bytes.now why) }
 {
     let history = read_journal(alloc, bytes)?;
     let replies = replies_to::<Brand>(alloc, history, Blank::new(1))?;
     Ok(replies)
+}
+
+/// The replies of the one-thread engine to the history whose journal these bytes are.
+pub fn replay(alloc: Global, bytes: &[u8]) -> Result<Vec<Reply>, JournalError>
+    ensures replies { IfOk result (λ replies. IsReplay bytes.now replies.items) }
+    ensures place { IfErr result (λ why. HasCause bytes.now why) }
+
+    // There is no other answer but want of memory.
+    ensures journals { (history : List Entry) → IsJournal bytes.now history → MatchResult result (λ replies. replies.items ≡ replies_of history) (λ why. why ≡ error.NoMemory) }
+    ensures places { (place : ℕ) → IsBadPlace bytes.now place → MatchResult result (λ replies. ⊥) (λ why. IsShortOr place why) }
+{
+    replayed(alloc, bytes)
 }

@@ -75,7 +75,7 @@ fn is_reply(place: usize, reply: &Reply) -> bool {
     }
 }
 
-/// The tag, the client and, in the end, how many.
+/// Whether the entry of row 19 at this place is this client's.
 fn is_entry(place: usize, entry: &Entry) -> bool {
     let clients = [0, 1, 1, 1, 1, 0];
     place < 6 && entry.client == clients[place]
@@ -102,6 +102,20 @@ fn the_journal_of_row_19_is_written(rt: HostRuntime) -> Result<(), Fail> {
 #[test]
 fn row_19_is_replayed(rt: HostRuntime) -> Result<(), Fail> {
     let replies = replay(rt.alloc(), &ROW_19).ok().ok_or("no replies")?;
+    assert_eq!(rt; replies.len(), 6);
+    for (place, reply) in replies.iter().enumerate() {
+        assert!(rt; is_reply(place, reply), "{place}");
+    }
+    Ok(())
+}
+
+/// A Turn that asks for more steps than it does is replayed too, and counts those that it does.
+#[test]
+fn row_19_with_256_steps_is_replayed(rt: HostRuntime) -> Result<(), Fail> {
+    let mut bytes = ROW_19;
+    bytes[25] = 1;
+    bytes[26] = 0;
+    let replies = replay(rt.alloc(), &bytes).ok().ok_or("no replies")?;
     assert_eq!(rt; replies.len(), 6);
     for (place, reply) in replies.iter().enumerate() {
         assert!(rt; is_reply(place, reply), "{place}");
