@@ -28,7 +28,7 @@ use Rattle.jsh_core.proofs.Reached.{SameRun, SameRun-same, new_run, none-numbere
 use Rattle.jsh_core.proofs.ThreadLaws.{LeavesOthers, stop_thread-leaves, turned-leaves}
 use Rattle.jsh_core.proofs.Views.{Collects, DropsId, DropsName, Enters, Expires, Stops, Submits, run_view-of, view-collect, view-drop_id, view-drop_name, view-enter, view-expire, view-stop, view-submit}
 use Rattle.jsh_core.proofs.Views.{absent, accepted, crowded, drops, ended, enters, foreign, full, idle, only, rejected, running, spent, stalled, standing, unclear}
-use Rattle.jsh_core.proofs.WorldLemmas.{numbered-positive, numbered-push}
+use Rattle.jsh_core.proofs.ListLemmas.{numbered-positive, numbered-push}
 
 -- among these runs this client owns the one with this number, and it isn't gone
 pub record Owns (runs : List Run) (owner number : ℕ) (run : Run) : Type 0 where

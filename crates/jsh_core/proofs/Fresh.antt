@@ -26,7 +26,7 @@ use Rattle.jsh_core.proofs.DeliveryLaws.{IsDelivered, by, delivers}
 use Rattle.jsh_core.proofs.Reached.{new_run}
 use Rattle.jsh_core.proofs.Views.{Collects, DropsId, DropsName, Enters, Expires, Stops, Submits, view-collect, view-drop_id, view-drop_name, view-enter, view-expire, view-stop, view-submit}
 use Rattle.jsh_core.proofs.Views.{absent, accepted, crowded, drops, ended, enters, foreign, full, idle, only, rejected, running, spent, stalled, standing, unclear}
-use Rattle.jsh_core.proofs.WorldLemmas.{numbered-push}
+use Rattle.jsh_core.proofs.ListLemmas.{numbered-push}
 
 -- the last run is this client's, and its main thread is the last one, which is ready and has done nothing yet
 pub record IsFresh (s : State) (client run : ℕ) : Type 0 where

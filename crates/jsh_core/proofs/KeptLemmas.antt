@@ -11,7 +11,7 @@ use Rattle.jsh_snippet.specs.declared.replies.ReplyBody.TheVariants as body
 use Rattle.jsh_core.specs.declared.log.Log.{Log}
 use Rattle.jsh_core.specs.declared.parts.Parts.{Parts}
 use Rattle.jsh_core.specs.State.{State}
-use Rattle.jsh_core.specs.Threads.{turned, Turned}
+use Rattle.jsh_core.specs.Threads.{turned}
 use Rattle.jsh_core.specs.Parts.{state_from}
 use Rattle.jsh_core.specs.Acts.{is_last, IsCut}
 use Rattle.jsh_core.specs.Acts.IsCut.{nothing, some}
@@ -19,24 +19,9 @@ use Rattle.jsh_core.specs.Step.{act_step, act_with_steps, delivered, kept, kept_
 use Rattle.jsh_core.specs.History.{Allows}
 use Rattle.jsh_core.specs.Stands.{StandsFor, entry_room}
 use Rattle.jsh_core.proofs.DeliveryLemmas.{IsReplied, replied-body, replied-done}
-use Rattle.jsh_core.proofs.TurnLemmas.{turned-at_most, turned-kept-asked}
+use Rattle.jsh_core.proofs.TurnLemmas.{turned-at_most}
 use Rattle.jsh_core.proofs.StandsLemmas.{IsLonger, StandsFor-next, StandsFor-same, Allows-fewer}
-
--- an act as it is kept does the same
-pub act-kept : (s : State) (client : ℕ) (what : Act) → act_step s client (kept_act what (act_step s client what).body) ≡ act_step s client what
-act-kept s client (act.Turn thread asked) =
-    ap (λ (t : Turned). record { state = record s { world = t.world }; body = body.Turned t.steps })
-    (turned-kept-asked thread asked (turned thread asked s.world).steps s.world refl)
-act-kept s client act.Enter = refl
-act-kept s client (act.Submit source) = refl
-act-kept s client (act.Collect run) = refl
-act-kept s client (act.Expire run steps) = refl
-act-kept s client (act.Stop run) = refl
-act-kept s client (act.Drop target) = refl
-act-kept s client (act.Ask question) = refl
-act-kept s client act.Reset = refl
-act-kept s client act.Leave = refl
-act-kept s client act.Close = refl
+use Rattle.jsh_core.proofs.Steps.{act-kept}
 
 -- it is one of the last as it was
 alike : (what : Act) (reply : ReplyBody) → is_last (kept_act what reply) ≡ is_last what

@@ -38,3 +38,4 @@ pub mod Values
 pub mod RunHistory
 pub mod SnippetLemmas
 pub mod ByteLemmas
+pub mod AllowedLemmas

@@ -4,7 +4,7 @@ use Rattle.std.specs.List.{slice_get}
 use Rattle.std.proofs.lemmas.Bool.{eqb-true}
 use Rattle.std.proofs.lemmas.Option.{slice_get_within}
 use Rattle.jsh_core.specs.State.{numbered}
-use Rattle.jsh_core.proofs.WorldLemmas.{numbered-place, numbered-positive}
+use Rattle.jsh_core.proofs.ListLemmas.{numbered-place, numbered-positive}
 
 pub slice_get-append : {A : Type 0} (items more : List A) (i : ℕ) (item : A) → slice_get items i ≡ Some item → slice_get (items ++ more) i ≡ Some item
 slice_get-append [] more i item e = cc

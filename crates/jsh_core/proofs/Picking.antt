@@ -14,7 +14,7 @@ use Rattle.jsh_sched.proofs.ReadyThreads.{find_main_at, picked-is_none}
 use Rattle.jsh_core.specs.State.{State, World, numbered}
 use Rattle.jsh_core.specs.Threads.{can_go_on}
 use Rattle.jsh_core.specs.Causes.{SomeGoesOn}
-use Rattle.jsh_core.proofs.WorldLemmas.{numbered-place, numbered-positive}
+use Rattle.jsh_core.proofs.ListLemmas.{numbered-place, numbered-positive}
 
 -- a ready main thread that goes first is picked
 pub picked-main : (states : List ThreadState) (cursor main : ℕ) → numbered states main ≡ Some thread_state.Ready →

@@ -32,7 +32,7 @@ use Rattle.jsh_core.proofs.ThreadLaws.{GoesOver, GoesOver-same, LeavesOthers, st
 use Rattle.jsh_core.proofs.TurnLemmas.{turned-stuck, turned-suc, turned-zero}
 use Rattle.jsh_core.proofs.Views.{Collects, DropsId, DropsName, Enters, Expires, Stops, Submits, view-collect, view-drop_id, view-drop_name, view-enter, view-expire, view-stop, view-submit}
 use Rattle.jsh_core.proofs.Views.{absent, accepted, crowded, drops, ended, enters, foreign, full, idle, only, rejected, running, spent, stalled, standing, unclear}
-use Rattle.jsh_core.proofs.WorldLemmas.{numbered-positive, numbered-push}
+use Rattle.jsh_core.proofs.ListLemmas.{numbered-positive, numbered-push}
 
 -- The main thread of a run. One that was stopped while its run is there has a client that stopped it.
 pub record HasMain (states : List ThreadState) (threads : List Thread) (run : Run) : Type 0 where

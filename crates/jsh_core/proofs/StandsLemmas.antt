@@ -1,13 +1,12 @@
 -- What stands for a history, when an entry more comes.
-use Rattle.std.proofs.Common.{◌≡◌, ℕ, suc, ◌+◌, ◌*◌, ◌<◌, ◌≤◌, Bool, true, false, cond, List, [], ◌∷◌, ◌++◌, Option, None, Some, length, min, set, get_or, refl, ap, sym, subst, ◌∙◌, arith, append_assoc, append-nil, length-append, add-zero, vec_capacity}
+use Rattle.std.proofs.Common.{◌≡◌, ℕ, suc, ◌+◌, ◌*◌, ◌<◌, ◌≤◌, Bool, true, false, cond, List, [], ◌∷◌, ◌++◌, Option, None, Some, length, min, refl, ap, sym, subst, ◌∙◌, arith, append_assoc, append-nil, length-append, add-zero, vec_capacity}
 use Rattle.std.specs.Prelude.{◌||◌, if◌then◌else◌, not, eqb}
 use Rattle.std.proofs.Math.Nat.{le_refl}
 use Rattle.std.proofs.lemmas.Bool.{le-ltb, lt-ltb}
 use Rattle.std.proofs.lemmas.Bool.Decides.{nat_tests}
 use Rattle.std.proofs.lemmas.List.Folds.{position_or_len_push}
-use Rattle.std.specs.List.{slice_get, sum_by, position_or_len, list_any}
-use Rattle.std.proofs.lemmas.List.Sums.{sum_by-append, sum_by-set, count_by-le-length}
-use Rattle.std.proofs.lemmas.Option.{get_or_from_slice_get, slice_get_within}
+use Rattle.std.specs.List.{slice_get, position_or_len, list_any}
+use Rattle.std.proofs.lemmas.List.Sums.{sum_by-append, count_by-le-length}
 use Rattle.jsh_snippet.specs.declared.acts.Act.{Act}
 use Rattle.jsh_snippet.specs.declared.acts.Act.TheVariants as act
 use Rattle.jsh_snippet.specs.declared.acts.Entry.{Entry}
@@ -19,14 +18,12 @@ use Rattle.jsh_core.specs.State.{State, Stepped, opening}
 use Rattle.jsh_core.specs.Parts.{state_from, IsSound, IsWithin}
 use Rattle.jsh_core.specs.Acts.{entries_with, is_last}
 use Rattle.jsh_core.specs.Step.{step}
-use Rattle.jsh_core.specs.History.{state_after, source_bytes, act_bytes, is_close, closed_at, state_of, Allows, MayDo, IsLegalAfter, IsLegal}
+use Rattle.jsh_core.specs.History.{source_bytes, act_bytes, is_close, closed_at, state_of, Allows, MayDo, IsLegalAfter, IsLegal}
 use Rattle.jsh_core.specs.Stands.{StandsFor, entry_room, present_count}
 use Rattle.jsh_core.proofs.Bounds.{StepsAtMost-weaker}
 use Rattle.jsh_core.proofs.DeliveryLemmas.{IsReplied}
-
-pub state_after-more : (s : State) (es : List Entry) (e : Entry) → state_after s (es ++ e ∷ []) ≡ (step (state_after s es) e).state
-state_after-more s [] e = refl
-state_after-more s (x ∷ es) e = state_after-more (step s x).state es e
+use Rattle.jsh_core.proofs.ListLemmas.{count_by-set_fewer}
+use Rattle.jsh_core.proofs.Steps.{state_after-push}
 
 legal_more : (past es : List Entry) (e : Entry) → IsLegalAfter past es → Allows (past ++ es) e → IsLegalAfter past (es ++ e ∷ [])
 legal_more past [] e h a = (subst (λ (l : List Entry). Allows l e) (append-nil past) a, tt)
@@ -49,16 +46,6 @@ closes e = is_close e.act
 eqb_same : (n : ℕ) → eqb n n ≡ true
 eqb_same n = grind (arith, nat_tests)
 
--- where a client that is there goes, one fewer is there
-fewer_present : (clients : List Bool) (client : ℕ) → slice_get clients client ≡ Some true → present_count (set clients client false) + 1 ≡ present_count clients
-fewer_present clients client there =
-    let within : client < length clients = slice_get_within clients client true there in
-    let same : get_or clients client false ≡ true = get_or_from_slice_get clients client true false there in
-    let moved : sum_by (λ (x : Bool). cond x 1 0) (set clients client false) + cond (get_or clients client false) 1 0 ≡ sum_by (λ (x : Bool). cond x 1 0) clients + 0
-    = sum_by-set (λ (x : Bool). cond x 1 0) clients client false false within in
-    let one : ◌≡◌ {A = ℕ} (cond (get_or clients client false) 1 0) 1 = rw same refl in
-    omega (arith, moved, one)
-
 open_length : (h : List Entry) → list_any closes h ≡ false → position_or_len closes h ≡ length h
 open_length [] o = refl
 open_length (x ∷ xs) o = from (closes x) o (open_length xs)
@@ -68,7 +55,7 @@ open_length (x ∷ xs) o = from (closes x) o (open_length xs)
     from false e h = let same : position_or_len closes xs ≡ length xs = h e in omega (arith, same)
 
 -- nothing closes an open history
-closed_at-open : (h : List Entry) → list_any closes h ≡ false → closed_at h ≡ None
+pub closed_at-open : (h : List Entry) → list_any closes h ≡ false → closed_at h ≡ None
 closed_at-open h o = rw (open_length h o, le-ltb (length h) (length h) (le_refl (length h))) refl
 
 closed_length : (h : List Entry) → list_any closes h ≡ true → position_or_len closes h < length h
@@ -210,7 +197,7 @@ room-more history client what capacity wider before after close is there few old
     within act.Leave is enough none =
         let long : length (history ++ record { client = client; act = act.Leave } ∷ []) ≡ length history + 1 = simp length-append (omega arith) in
         let fewer : present_count after.clients + 1 ≡ present_count before.clients =
-        ap (λ (s : State). present_count s.clients + 1) is ∙ fewer_present before.clients client there in
+        ap (λ (s : State). present_count s.clients + 1) is ∙ count_by-set_fewer (λ (there : Bool). there) before.clients client true false there refl refl in
         omega (arith, long, fewer, old, wide)
     within act.Close is enough none = cc
     within act.Enter is enough none = roomy _ (enough refl)
@@ -237,7 +224,7 @@ StandsFor-next log longer client what parts after reply old allowed more done en
     let there : slice_get parts.clients.items client ≡ Some true = ap (λ (s : State). slice_get s.clients client) old.state ∙ allowed.present in
     record {
       legal = subst (λ (h : List Entry). IsLegal h) (sym more.items) (IsLegal-more history entry old.legal allowed);
-      state = is ∙ ap (λ (s : State). (step s entry).state) old.state ∙ sym (state_after-more opening history entry) ∙ sym (ap state_of more.items);
+      state = is ∙ ap (λ (s : State). (step s entry).state) old.state ∙ sym (state_after-push opening history entry) ∙ sym (ap state_of more.items);
       sound = done.sound;
       within = subst (λ (h : List Entry). IsWithin (min (length h) most_entries) after) (sym more.items)
           (within-more history client what after allowed.may (done.within _ old.within));

@@ -73,7 +73,7 @@ step-present s entry client there stays =
     ap (λ (l : List Bool). slice_get l client) is.clients ∙ act-present s entry.client client entry.act there stays
 
 -- an act as it is kept does the same
-act-kept : (s : State) (client : ℕ) (what : Act) → act_step s client (kept_act what (act_step s client what).body) ≡ act_step s client what
+pub act-kept : (s : State) (client : ℕ) (what : Act) → act_step s client (kept_act what (act_step s client what).body) ≡ act_step s client what
 act-kept s client (act.Turn thread asked) =
     ap (λ (t : Turned). record { state = record s { world = t.world }; body = body.Turned t.steps })
     (turned-kept-asked thread asked (turned thread asked s.world).steps s.world refl)

@@ -1,10 +1,8 @@
 -- What stopping threads keeps.
-use Rattle.std.proofs.Common.{◌≡◌, ℕ, suc, ◌+◌, ◌-◌, ◌<◌, ◌≤◌, Bool, true, false, List, [], ◌∷◌, Option, None, Some, length, set, get_or, refl, ap, sym, ◌∙◌, arith, cond}
+use Rattle.std.proofs.Common.{◌≡◌, ℕ, suc, ◌+◌, ◌-◌, ◌<◌, ◌≤◌, Bool, true, false, List, [], ◌∷◌, Option, None, Some, length, set, get_or, refl, ap, sym, ◌∙◌, arith}
 use Rattle.std.specs.Prelude.{◌&&◌, if◌then◌else◌}
-use Rattle.std.specs.List.{All, count_by, slice_get, sum_by}
+use Rattle.std.specs.List.{All, count_by}
 use Rattle.std.specs.Option.{option_map_or}
-use Rattle.std.proofs.lemmas.Option.{get_or_from_slice_get, slice_get_within}
-use Rattle.std.proofs.lemmas.List.Sums.{sum_by-set}
 use Rattle.std.proofs.lemmas.List.Elements.{All-cons, All-head, All-tail, All-set, All-get_or}
 use Rattle.jsh_sched.specs.declared.ThreadState.{ThreadState}
 use Rattle.jsh_sched.specs.declared.ThreadState.TheVariants as thread_state
@@ -13,7 +11,7 @@ use Rattle.jsh_core.specs.declared.world.Thread.{Thread}
 use Rattle.jsh_core.specs.State.{World, numbered}
 use Rattle.jsh_core.specs.Threads.{is_owned, is_thread_alive, ended_by_stop, stop_thread, stopped_states, stopped_threads}
 use Rattle.jsh_core.specs.Parts.{StepsAtMost}
-use Rattle.jsh_core.proofs.ListLemmas.{HasNumber, HasNumber-of, numbered-at}
+use Rattle.jsh_core.proofs.ListLemmas.{HasNumber, HasNumber-of, count_by-set_fewer, numbered-at}
 
 owned_ended : (owner : Option ℕ) (t : Thread) → is_owned owner (ended_by_stop t) ≡ is_owned owner t
 owned_ended None t = refl
@@ -80,16 +78,6 @@ pub record Stops (states : List ThreadState) (number : ℕ) : Type 0 where
   pub alive : 0 < count_by is_alive states
   pub fewer : count_by is_alive (set states (number - 1) thread_state.Stopped) + 1 ≡ count_by is_alive states
 
-fewer_at : (states : List ThreadState) (i : ℕ) (s : ThreadState) → slice_get states i ≡ Some s → is_alive s ≡ true →
-    count_by is_alive (set states i thread_state.Stopped) + 1 ≡ count_by is_alive states
-fewer_at states i s place alive =
-    let within : i < length states = slice_get_within states i s place in
-    let same : get_or states i s ≡ s = get_or_from_slice_get states i s s place in
-    let moved : sum_by (λ (x : ThreadState). cond (is_alive x) 1 0) (set states i thread_state.Stopped) + cond (is_alive (get_or states i s)) 1 0 ≡ sum_by (λ (x : ThreadState). cond (is_alive x) 1 0) states + 0
-    = sum_by-set (λ (x : ThreadState). cond (is_alive x) 1 0) states i thread_state.Stopped s within in
-    let one : ◌≡◌ {A = ℕ} (cond (is_alive (get_or states i s)) 1 0) 1 = rw (same, alive) refl in
-    omega (arith, moved, one)
-
 pub Stops-alive : (states : List ThreadState) (number : ℕ) → option_map_or is_alive (numbered states number) false ≡ true → Stops states number
 Stops-alive states number alive = from (numbered states number) refl alive
   where
@@ -97,7 +85,8 @@ Stops-alive states number alive = from (numbered states number) refl alive
     from None e r = cc
     from (Some s) e r =
         let there : HasNumber states number s = HasNumber-of states number s e in
-        let less : count_by is_alive (set states (number - 1) thread_state.Stopped) + 1 ≡ count_by is_alive states = fewer_at states (number - 1) s there.place r in
+        let less : count_by is_alive (set states (number - 1) thread_state.Stopped) + 1 ≡ count_by is_alive states =
+        count_by-set_fewer is_alive states (number - 1) s thread_state.Stopped there.place r refl in
         record { within = there.within; positive = there.positive; alive = omega (arith, less); fewer = less }
 
 -- the world after an alive thread is stopped

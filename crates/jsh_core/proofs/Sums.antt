@@ -18,7 +18,7 @@ use Rattle.jsh_core.specs.Threads.Next.{Sets, Returns}
 use Rattle.jsh_core.proofs.ThreadLaws.{StopsThread, frame_answered, frame_begun, ready-at, view-stop_thread}
 use Rattle.jsh_core.proofs.ThreadLaws.StopsThread.{idle, missing, stops}
 use Rattle.jsh_core.proofs.TurnLemmas.{turned-stuck, turned-suc, turned-zero}
-use Rattle.jsh_core.proofs.WorldLemmas.{numbered-place}
+use Rattle.jsh_core.proofs.ListLemmas.{numbered-place}
 
 -- how far a thread can be
 pub data IsOnSum (state : ThreadState) (t : Thread) : Type 0 where

@@ -20,7 +20,8 @@ use Rattle.jsh_core.specs.Threads.{Next, answered, can_go_on, ended_by_stop, fra
 use Rattle.jsh_core.specs.Threads.Next.{Sets, Returns}
 use Rattle.jsh_core.proofs.Numbered.{numbered-set, numbered-set_other}
 use Rattle.jsh_core.proofs.TurnLemmas.{turned-stuck, turned-suc, turned-zero}
-use Rattle.jsh_core.proofs.WorldLemmas.{numbered-positive}
+use Rattle.jsh_core.proofs.ListLemmas.{numbered-positive}
+use Rattle.jsh_core.proofs.WorldLemmas.{ready_lives}
 
 -- a body that was entered and answered nothing, or once
 abbrev pub frame_begun : Body → Frame
@@ -193,12 +194,6 @@ frames-over : (w : World) (number : ℕ) (state : ThreadState) (t : Thread) (fra
 frames-over w number state t [] state_is thread_is alive is = GoesOver-same w w number state t refl refl state_is thread_is
 frames-over w number state t (frame ∷ below) state_is thread_is alive is =
     performed-over w number state t frame below (next frame.body.sum frame.answers) state_is thread_is alive is refl
-
-ready_lives : (state : ThreadState) → is_ready state ≡ true → is_alive state ≡ true
-ready_lives thread_state.Ready e = refl
-ready_lives (thread_state.Joining other) e = cc
-ready_lives thread_state.Ended e = cc
-ready_lives thread_state.Stopped e = cc
 
 -- the state of a thread that can go on
 pub ready-at : (w : World) (number : ℕ) (state : ThreadState) → numbered w.states number ≡ Some state → can_go_on w number ≡ true → is_ready state ≡ true

@@ -1,4 +1,5 @@
 use crate::acts::perform;
+use crate::allowed::is_allowed;
 use crate::delivery::deliver;
 use crate::lists::push_reserved;
 use crate::log::{Log, kept_entry, make_room, new_log, push_entry, with_steps};
@@ -34,7 +35,7 @@ impl Model for Core {
 }
 
 impl Core {
-    ghost use Rattle.std.specs.Prelude.{◌≡◌, ◌↔◌, ℕ, ◌∷◌, ◌++◌, [], ◌<◌, ◌^◌, length, slice_get, IfOk, IsOk, OnErr};
+    ghost use Rattle.std.specs.Prelude.{◌≡◌, ◌↔◌, ℕ, ◌∷◌, ◌++◌, [], ◌<◌, ◌^◌, length, slice_get, IfOk, IsOk, IsTrue, OnErr};
     ghost use Rattle.std.specs.Option.{option_copied, option_map};
     ghost use Rattle.jsh_snippet.specs.declared.acts.Act.TheVariants as act;
     ghost use Rattle.jsh_core.specs.declared.world.RunView.{RunView};
@@ -73,6 +74,13 @@ impl Core {
                 clients,
             },
         })
+    }
+
+    /// Whether an entry may come next: what a host asks before `apply`.
+    pub fn may_come(&self, entry: &Entry) -> bool
+        ensures allows { IsTrue result ↔ Allows self.now entry.now }
+    {
+        is_allowed(&self.log, &self.parts, entry)
     }
 
     /// Does an entry, and answers it. After want of memory all is as before, but a turn keeps the

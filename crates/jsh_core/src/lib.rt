@@ -2,6 +2,7 @@
 #![tactic(auto)]
 
 mod acts;
+mod allowed;
 mod cells;
 mod clients;
 mod delivery;

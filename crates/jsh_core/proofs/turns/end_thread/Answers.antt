@@ -6,7 +6,8 @@ use Rattle.jsh_sched.specs.declared.ThreadState.TheVariants as thread_state
 use Rattle.jsh_core.specs.declared.world.Thread.{Thread}
 use Rattle.jsh_core.specs.Parts.{world_of}
 use Rattle.jsh_core.specs.Threads.{thread_returned}
-use Rattle.jsh_core.proofs.WorldLemmas.{numbered-place, Ends, Ends-ready}
+use Rattle.jsh_core.proofs.ListLemmas.{numbered-place}
+use Rattle.jsh_core.proofs.WorldLemmas.{Ends, Ends-ready}
 use Rattle.jsh_core.proofs.turns.end_thread.Goals as goal
 
 pub overflow_sub-world : goal.overflow_sub-world

@@ -15,7 +15,7 @@ use Rattle.jsh_core.specs.Cells.{set_cell}
 use Rattle.jsh_core.specs.Parts.{world_of}
 use Rattle.jsh_core.specs.State.{numbered}
 use Rattle.jsh_core.specs.Threads.{answered, thread_answered}
-use Rattle.jsh_core.proofs.WorldLemmas.{numbered-place}
+use Rattle.jsh_core.proofs.ListLemmas.{numbered-place}
 use Rattle.jsh_core.proofs.turns.set_variable.Goals as goal
 
 -- the thread that is written to is the one with this number
