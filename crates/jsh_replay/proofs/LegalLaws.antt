@@ -1,11 +1,11 @@
 -- What a legal history has room for.
 use Rattle.std.proofs.Common.{◌≡◌, ℕ, zero, suc, ◌+◌, ◌^◌, ◌<◌, ◌≤◌, Bool, true, false, cond, List, [], ◌∷◌, ◌++◌, Some, length, set, get_or, take, refl, ap, sym, subst, ◌∙◌, append_assoc, append-nil, length-append, arith}
 use Rattle.std.specs.Prelude.{◌||◌, nat_le}
-use Rattle.std.specs.List.{slice_get, sum_by, AllByRecursion}
+use Rattle.std.specs.List.{AllByRecursion}
 use Rattle.std.proofs.Math.ListN.{length-set}
 use Rattle.std.proofs.lemmas.Bool.{leb-false}
-use Rattle.std.proofs.lemmas.List.Sums.{sum_by-append, sum_by-set, count_by-le-length}
-use Rattle.std.proofs.lemmas.Option.{get_or_from_slice_get, slice_get_within}
+use Rattle.std.proofs.lemmas.List.Sums.{count_by-le-length}
+use Rattle.std.proofs.lemmas.Option.{slice_get_within}
 use Rattle.jsh_snippet.specs.declared.acts.Act.{Act}
 use Rattle.jsh_snippet.specs.declared.acts.Act.TheVariants as act
 use Rattle.jsh_snippet.specs.declared.acts.Entry.{Entry}
@@ -13,6 +13,7 @@ use Rattle.jsh_core.specs.State.{State, opening}
 use Rattle.jsh_core.specs.Stands.{present_count}
 use Rattle.jsh_core.specs.Step.{step}
 use Rattle.jsh_core.specs.History.{act_text, state_after, state_of, Allows, IsLegal, IsLegalAfter, MayDo}
+use Rattle.jsh_core.proofs.ListLemmas.{count_by-set_fewer}
 use Rattle.jsh_core.proofs.StandsLemmas.{IsLegal-more}
 use Rattle.jsh_core.proofs.Steps.{state_of-push}
 use Rattle.jsh_replay.specs.Journal.{turn_steps, IsWritable, IsWritten}
@@ -48,16 +49,6 @@ few_after s (entry ∷ entries) few =
 pub clients-few : (history : List Entry) → length (state_of history).clients ≤ 64
 clients-few history = few_after opening history (omega arith)
 
--- where a client that is there goes, one fewer is there
-fewer_there : (clients : List Bool) (client : ℕ) → slice_get clients client ≡ Some true → present_count (set clients client false) + 1 ≡ present_count clients
-fewer_there clients client there =
-    let within : client < length clients = slice_get_within clients client true there in
-    let same : get_or clients client false ≡ true = get_or_from_slice_get clients client true false there in
-    let moved : sum_by (λ (x : Bool). cond x 1 0) (set clients client false) + cond (get_or clients client false) 1 0 ≡ sum_by (λ (x : Bool). cond x 1 0) clients + 0
-    = sum_by-set (λ (x : Bool). cond x 1 0) clients client false false within in
-    let one : ◌≡◌ {A = ℕ} (cond (get_or clients client false) 1 0) 1 = rw same refl in
-    omega (arith, moved, one)
-
 -- ---- how many entries
 
 -- so many entries there can be, with a leave of each client that is there and a close behind them
@@ -81,7 +72,8 @@ left-bounded history client bounded allowed =
     let longer : length (history ++ entry ∷ []) ≡ length history + 1 = length-append history (entry ∷ []) in
     let clients : (state_of (history ++ entry ∷ [])).clients ≡ set (state_of history).clients client false =
         ap (λ (s : State). s.clients) (state_of-push history entry) ∙ step-clients (state_of history) entry in
-    let fewer : present_count (set (state_of history).clients client false) + 1 ≡ present_count (state_of history).clients = fewer_there (state_of history).clients client allowed.present in
+    let fewer : present_count (set (state_of history).clients client false) + 1 ≡ present_count (state_of history).clients =
+    count_by-set_fewer (λ (there : Bool). there) (state_of history).clients client true false allowed.present refl refl in
     let before : length history + present_count (state_of history).clients ≤ 4194368 = bounded.leaves allowed.open in
     record { leaves = λ still. omega (arith, longer, ap present_count clients, fewer, before); few = omega (arith, longer, fewer, before) }
 
