@@ -1,6 +1,6 @@
 //! Items.
 
-ghost use Rattle.std.specs.Prelude.{◌≡◌, ◌++◌, option_map, IfSome, IfNone, ℕ, List};
+ghost use Rattle.std.specs.Prelude.{◌≡◌, ◌++◌, option_map, IfSome, IfNone};
 ghost use Rattle.jsh_replay.specs.Journal.{header, BeginsWith};
 ghost use Rattle.jsh_replay.specs.Reading.{Gives};
 ghost use Rattle.jsh_replay.specs.Reading as spec;

@@ -1,4 +1,4 @@
-ghost use Rattle.std.specs.Prelude.{◌≡◌, ◌<◌, ◌+◌, ℕ, List, IfOk, IfErr, MatchResult};
+ghost use Rattle.std.specs.Prelude.{◌≡◌, ◌<◌, ℕ, List, IfOk, IfErr, MatchResult};
 ghost use Rattle.jsh_snippet.specs.declared.acts.Entry.{Entry};
 ghost use Rattle.jsh_core.specs.History.{replies_of, IsLegal};
 ghost use Rattle.jsh_replay.specs.declared.journal_error.JournalError.TheVariants as error;

@@ -1,11 +1,11 @@
-ghost use Rattle.std.specs.Prelude.{◌≡◌, ◌≤◌, ◌<◌, ◌^◌, ◌++◌, ◌∷◌, [], length, IfOk, OnOk};
+ghost use Rattle.std.specs.Prelude.{◌≡◌, ◌≤◌, ◌<◌, ◌^◌, ◌++◌, length, IfOk, OnOk};
 ghost use Rattle.std.specs.Int.{w16, w32, w64, to_be_bytes};
 ghost use Rattle.jsh_tree.specs.Text.{most_source};
 ghost use Rattle.jsh_core.specs.Limits.{most_steps};
 ghost use Rattle.jsh_core.specs.History.{act_text, target_text, IsLegal};
 ghost use Rattle.jsh_core.specs.Questions.{question_text};
 ghost use Rattle.jsh_replay.specs.Journal as spec;
-ghost use Rattle.jsh_replay.specs.Journal.{text_bytes, target_bytes, question_bytes, field_bytes, entry_bytes, end_bytes, journal_bytes, turn_steps, IsText, IsTargetField, IsQuestionField, FitsFields, IsWritable, IsJournal};
+ghost use Rattle.jsh_replay.specs.Journal.{text_bytes, target_bytes, question_bytes, field_bytes, entry_bytes, journal_bytes, turn_steps, IsText, IsTargetField, IsQuestionField, FitsFields, IsWritable, IsJournal};
 
 use jsh_snippet::{Act, Entry, Question, Target};
 use jsh_text::NoMemory;
