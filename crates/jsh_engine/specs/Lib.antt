@@ -1,0 +1,4 @@
+pub mod Seats
+pub mod Attempts
+pub mod Driving
+pub mod Evaluating
