@@ -1,7 +1,8 @@
 -- What a call with one entry comes to.
-use Rattle.std.specs.Prelude.{◌≡◌, ◌⊎◌, ℕ, ◌+◌, List, [], ◌∷◌, ◌++◌, Option, None, Some, Result, Ok, Err, length, nat_le, nat_lt, if◌then◌else◌}
+use Rattle.std.specs.Prelude.{◌≡◌, ◌⊎◌, ℕ, ◌+◌, Bool, true, false, List, [], ◌∷◌, ◌++◌, Option, None, Some, Result, Ok, Err, length, nat_le, nat_lt, if◌then◌else◌}
 use Rattle.jsh_tree.specs.Text.{most_source}
 use Rattle.jsh_snippet.specs.declared.acts.Act.{Act}
+use Rattle.jsh_snippet.specs.declared.acts.Act.TheVariants as act
 use Rattle.jsh_snippet.specs.declared.acts.Entry.{Entry}
 use Rattle.jsh_snippet.specs.declared.replies.Reply.{Reply}
 use Rattle.jsh_snippet.specs.declared.replies.ReplyBody.{ReplyBody}
@@ -9,19 +10,20 @@ use Rattle.jsh_snippet.specs.declared.replies.ReplyBody.TheVariants as body
 use Rattle.jsh_snippet.specs.declared.replies.Refusal.TheVariants as refusal
 use Rattle.jsh_snippet.specs.declared.replies.LimitKind.TheVariants as limit
 use Rattle.jsh_core.specs.Limits.{most_bytes, most_entries}
-use Rattle.jsh_core.specs.History.{act_text, closed_at, source_bytes, state_of}
+use Rattle.jsh_core.specs.History.{act_text, closed_at, source_bytes, state_of, IsTarget}
+use Rattle.jsh_core.specs.Questions.{IsAnswered}
 use Rattle.jsh_core.specs.Step.{step, kept}
 use Rattle.jsh_engine.specs.declared.errors.EngineError.{EngineError}
 use Rattle.jsh_engine.specs.declared.errors.EngineError.TheVariants as error
 use Rattle.jsh_engine.specs.Seats.{Seated, IsSameSeat, Finds}
 
 -- nothing follows a close
+abbrev pub closed_error : Option ℕ → Option EngineError
+closed_error None = None
+closed_error (Some place) = Some (error.Closed place)
+
 abbrev pub barred_by_close : List Entry → Option EngineError
-barred_by_close before = by (closed_at before)
-  where
-    by : Option ℕ → Option EngineError
-    by None = None
-    by (Some place) = Some (error.Closed place)
+barred_by_close before = closed_error (closed_at before)
 
 -- a history is full
 abbrev pub barred_by_length : List Entry → Option EngineError
@@ -39,9 +41,28 @@ abbrev pub or_else : Option EngineError → Option EngineError → Option Engine
 or_else None other = other
 or_else (Some why) other = Some why
 
+-- leaves and the close find room behind a full history
+abbrev pub barred_by_room : List Entry → Act → Option EngineError
+barred_by_room before act.Leave = None
+barred_by_room before act.Close = None
+barred_by_room before what = or_else (barred_by_length before) (barred_by_text before (length (act_text what)))
+
 -- why an act gets no entry after a history, in this order
 unfoldable pub barred : List Entry → Act → Option EngineError
-barred before what = or_else (barred_by_close before) (or_else (barred_by_length before) (barred_by_text before (length (act_text what))))
+barred before what = or_else (barred_by_close before) (barred_by_room before what)
+
+-- a further client is numbered
+abbrev pub is_enter : Act → Bool
+is_enter act.Enter = true
+is_enter _ = false
+
+-- what a call asks of the act that it hands in. Turns are taken by drives and pumps.
+abbrev pub IsAsked : ℕ → Act → Type 0
+IsAsked client (act.Turn thread steps) = ⊥
+IsAsked client (act.Drop what) = IsTarget what
+IsAsked client (act.Ask what) = IsAnswered what
+IsAsked client act.Close = client ≡ 0
+IsAsked client _ = Unit {0}
 
 -- what is answered, and what the history has behind it
 pub record Attempt : Type 0 where
@@ -49,12 +70,12 @@ pub record Attempt : Type 0 where
   pub added : List Entry
 
 -- a reply, but for a refusal
+abbrev pub answer_by : Reply → ReplyBody → Result Reply EngineError
+answer_by reply (body.Refused why) = Err (error.Refused why)
+answer_by reply _ = Ok reply
+
 abbrev pub answered : Reply → Result Reply EngineError
-answered reply = by reply.body
-  where
-    by : ReplyBody → Result Reply EngineError
-    by (body.Refused why) = Err (error.Refused why)
-    by _ = Ok reply
+answered reply = answer_by reply reply.body
 
 -- the entry is made, and replied to as the one-thread engine does
 abbrev pub made : List Entry → Entry → Attempt
@@ -71,14 +92,10 @@ attempt_unless None before entry = made before entry
 abbrev pub attempt : List Entry → ℕ → Act → Attempt
 attempt before client what = attempt_unless (barred before what) before (record { client = client; act = what })
 
--- an act that is barred by a close alone
-abbrev pub last_attempt : List Entry → ℕ → Act → Attempt
-last_attempt before client what = attempt_unless (barred_by_close before) before (record { client = client; act = what })
-
 -- Want of memory adds nothing; else this is the answer, and the seat has seen all, its own entry included.
 abbrev pub ComesTo : {A : Type 0} → (Result Reply EngineError → Result A EngineError → Type 0) → List Entry → Attempt → Result A EngineError → List Entry → Type 0
-ComesTo gives before attempt result seen =
-    ((result ≡ Err (error.NoMemory None)) × (seen ≡ before)) ⊎ (gives attempt.answer result × (seen ≡ before ++ attempt.added))
+ComesTo gives before tried result seen =
+    ((result ≡ Err (error.NoMemory None)) × (seen ≡ before)) ⊎ (gives tried.answer result × (seen ≡ before ++ tried.added))
 
 -- A call of a seat with one entry.
 pub record Calls {A : Type 0} (gives : Result Reply EngineError → Result A EngineError → Type 0) (attempt_after : List Entry → Attempt) (s t : Seated) (result : Result A EngineError) : Type 0 where
@@ -103,3 +120,11 @@ abbrev pub Output : ReplyBody → Result Reply EngineError → Result (List ℕ)
 Output what (Ok reply) (Ok output) = reply ≡ record { output = output; body = what }
 Output what (Err why) (Err told) = told ≡ why
 Output what _ _ = ⊥
+
+-- an entry with an act by a seat, whose reply is answered whole
+abbrev pub Hands : Act → Seated → Seated → Result Reply EngineError → Type 0
+Hands what s t result = Calls Whole (λ before. attempt before s.number what) s t result
+
+-- the call answered something else than want of memory
+abbrev pub TakesNoMemory : {A : Type 0} → Result A EngineError → Type 0
+TakesNoMemory result = (run : Option ℕ) → result ≡ Err (error.NoMemory run) → ⊥

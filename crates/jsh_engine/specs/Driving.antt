@@ -7,9 +7,11 @@ use Rattle.jsh_snippet.specs.declared.replies.ReplyBody.TheVariants as body
 use Rattle.jsh_snippet.specs.declared.replies.Refusal.TheVariants as refusal
 use Rattle.jsh_sched.specs.Pick.{picked}
 use Rattle.jsh_core.specs.declared.world.RunView.{RunView}
-use Rattle.jsh_core.specs.History.{state_of}
+use Rattle.jsh_core.specs.Limits.{most_entries}
+use Rattle.jsh_core.specs.History.{closed_at, state_of}
 use Rattle.jsh_core.specs.Runs.{run_view}
 use Rattle.jsh_core.specs.Step.{step}
+use Rattle.jsh_core.specs.Threads.{can_go_on}
 use Rattle.jsh_core.specs.Stands.{HasTurned}
 use Rattle.jsh_engine.specs.declared.errors.EngineError.{EngineError}
 use Rattle.jsh_engine.specs.declared.errors.EngineError.TheVariants as error
@@ -17,6 +19,8 @@ use Rattle.jsh_engine.specs.declared.driven.Driven.{Driven}
 use Rattle.jsh_engine.specs.declared.driven.Driven.TheVariants as driven
 use Rattle.jsh_engine.specs.declared.driven.Pumped.{Pumped}
 use Rattle.jsh_engine.specs.declared.driven.Pumped.TheVariants as pumped
+use Rattle.jsh_engine.specs.declared.moves.Move.{Move}
+use Rattle.jsh_engine.specs.declared.moves.Move.TheVariants.{Answers, Turns}
 use Rattle.jsh_engine.specs.Seats.{Seated, IsSameSeat, Finds, own}
 use Rattle.jsh_engine.specs.Attempts.{barred_by_close, barred_by_length}
 
@@ -29,10 +33,11 @@ abbrev pub last_turn : ℕ → List Entry → ℕ
 last_turn last [] = last
 last_turn last (entry ∷ entries) = last_turn (turned_thread last entry.act) entries
 
--- what is to be done: it is answered at once, or a thread has its turn
-pub data Move (A : Type 0) : Type 0 where
-  Answers : Result A EngineError → Move A
-  Turns : ℕ → Move A
+-- A thread can have a turn behind a history: nothing was closed, there is room for an entry, and it can go on.
+pub record CanTurn (before : List Entry) (thread : ℕ) : Type 0 where
+  pub «open» : closed_at before ≡ None
+  pub room : length before < most_entries
+  pub goes : can_go_on (state_of before).world thread ≡ true
 
 -- a turn has an entry, for which there has to be room
 abbrev pub turn_of : {A : Type 0} → Option EngineError → ℕ → Move A
@@ -57,8 +62,8 @@ drive_found before client cursor run (Some view) =
     if view.owner == client then drive_own before client cursor view else Answers (Err (error.Refused (refusal.NotOwner view.owner)))
 
 abbrev pub unless_closed : {A : Type 0} → Option EngineError → Move A → Move A
-unless_closed None move = move
-unless_closed (Some why) move = Answers (Err why)
+unless_closed None next = next
+unless_closed (Some why) next = Answers (Err why)
 
 -- a drive of a run, after a history
 unfoldable pub drive_move : List Entry → ℕ → ℕ → ℕ → Move Driven
@@ -81,28 +86,37 @@ pub record IsTurn (before : List Entry) (client thread most steps : ℕ) (after 
   pub longer : after ≡ before ++ record { client = client; act = act.Turn thread steps } ∷ []
 
 -- What comes of a move. Want of memory leaves the history, or a Turn of the steps that were done.
-abbrev pub MoveComes : {A : Type 0} → (ℕ → ℕ → A) → Option ℕ → Option ℕ → ℕ → List Entry → Move A → Seated → Result A EngineError → Seated → Type 0
-MoveComes ran run main most before (Answers answer) s result t =
-    ((result ≡ Err (error.NoMemory run)) ⊎ (result ≡ answer)) × (t.seen ≡ before) × (t.cursor ≡ s.cursor)
-MoveComes ran run main most before (Turns thread) s result t =
-    ((steps : ℕ) × IsTurn before s.number thread most steps t.seen × (result ≡ Ok (ran thread steps)) × (t.cursor ≡ cursor_after main s.cursor thread))
-    ⊎ ((result ≡ Err (error.NoMemory run)) × ((t.seen ≡ before) ⊎ HasTurned before s.number thread most t.seen) × (t.cursor ≡ s.cursor))
+abbrev pub MoveComes : {A : Type 0} → (ℕ → ℕ → A) → Option ℕ → Option ℕ → ℕ → ℕ → List Entry → ℕ → Move A → Result A EngineError → List Entry → ℕ → Type 0
+MoveComes ran run main client most before cursor (Answers answer) result after next_cursor =
+    ((result ≡ Err (error.NoMemory run)) ⊎ (result ≡ answer)) × (after ≡ before) × (next_cursor ≡ cursor)
+MoveComes ran run main client most before cursor (Turns thread) result after next_cursor =
+    ((steps : ℕ) × IsTurn before client thread most steps after × (result ≡ Ok (ran thread steps)) × (next_cursor ≡ cursor_after main cursor thread))
+    ⊎ ((result ≡ Err (error.NoMemory run)) × ((after ≡ before) ⊎ HasTurned before client thread most after) × (next_cursor ≡ cursor))
 
 -- the main thread of a run that is there
 abbrev pub main_of : Option RunView → Option ℕ
 main_of None = None
 main_of (Some view) = Some view.main
 
+-- what a drive comes to, by the history and the cursor before and after it
+abbrev pub DriveComes : ℕ → ℕ → ℕ → List Entry → ℕ → Result Driven EngineError → List Entry → ℕ → Type 0
+DriveComes run most client before cursor result after next_cursor =
+    MoveComes driven.Ran (Some run) (main_of (run_view (state_of before) run)) client most before cursor (drive_move before client cursor run) result after next_cursor
+
+abbrev pub PumpComes : ℕ → ℕ → List Entry → ℕ → Result Pumped EngineError → List Entry → ℕ → Type 0
+PumpComes most client before cursor result after next_cursor =
+    MoveComes pumped.Ran None None client most before cursor (pump_move before cursor) result after next_cursor
+
 -- a drive of a run by a seat
 pub record Drives (run most : ℕ) (s t : Seated) (result : Result Driven EngineError) : Type 0 where
   pub before : List Entry
   pub finds : Finds s before
   pub same : IsSameSeat s t
-  pub comes : MoveComes driven.Ran (Some run) (main_of (run_view (state_of before) run)) most before (drive_move before s.number s.cursor run) s result t
+  pub comes : DriveComes run most s.number before s.cursor result t.seen t.cursor
 
 -- a pump by a seat
 pub record Pumps (most : ℕ) (s t : Seated) (result : Result Pumped EngineError) : Type 0 where
   pub before : List Entry
   pub finds : Finds s before
   pub same : IsSameSeat s t
-  pub comes : MoveComes pumped.Ran None None most before (pump_move before s.cursor) s result t
+  pub comes : PumpComes most s.number before s.cursor result t.seen t.cursor

@@ -10,6 +10,7 @@ use Rattle.jsh_snippet.specs.declared.replies.Submitted.{Submitted}
 use Rattle.jsh_core.specs.Limits.{most_steps}
 use Rattle.jsh_engine.specs.declared.errors.EngineError.{EngineError}
 use Rattle.jsh_engine.specs.declared.errors.EngineError.TheVariants as error
+use Rattle.jsh_engine.specs.declared.evaluation.EvalReply.{EvalReply}
 use Rattle.jsh_engine.specs.declared.driven.Driven.{Driven}
 use Rattle.jsh_engine.specs.declared.driven.Driven.TheVariants as driven
 use Rattle.jsh_engine.specs.Seats.{Seated}
@@ -67,26 +68,21 @@ pub data GoesOn (budget run : ℕ) : ℕ → List ℕ → Seated → Seated → 
       → Collects run m n (Ok (more, «collected».Running steps)) → GoesOn budget run used (output ++ more) n t result → GoesOn budget run used output s t result
 
 -- what is told of an evaluation
-pub record Evaluated : Type 0 where
-  pub output : List ℕ
-  pub submitted : Submitted
-  pub outcome : Outcome
-
-abbrev pub told : Submitted → Result (List ℕ × Outcome) EngineError → Result Evaluated EngineError
+abbrev pub told : Submitted → Result (List ℕ × Outcome) EngineError → Result EvalReply EngineError
 told what (Ok found) = Ok (record { output = found.0; submitted = what; outcome = found.1 })
 told what (Err why) = Err why
 
 -- the run of a Submit's reply is evaluated, where it has one
-abbrev pub GoesOnWith : ℕ → Submitted → Option ℕ → List ℕ → Seated → Seated → Result Evaluated EngineError → Type 0
+abbrev pub GoesOnWith : ℕ → Submitted → Option ℕ → List ℕ → Seated → Seated → Result EvalReply EngineError → Type 0
 GoesOnWith budget what None output s t result = (t ≡ s) × (result ≡ Ok (record { output = output; submitted = what; outcome = outcome.NoRun }))
 GoesOnWith budget what (Some run) output s t result = (found : Result (List ℕ × Outcome) EngineError) × GoesOn budget run 0 output s t found × (result ≡ told what found)
 
 -- An evaluation of a source within a budget.
-abbrev pub EvaluatesFrom : ℕ → Seated → Result (List ℕ × Submitted) EngineError → Seated → Result Evaluated EngineError → Type 0
+abbrev pub EvaluatesFrom : ℕ → Seated → Result (List ℕ × Submitted) EngineError → Seated → Result EvalReply EngineError → Type 0
 EvaluatesFrom budget m (Ok first) t result = GoesOnWith budget first.1 first.1.run first.0 m t result
 EvaluatesFrom budget m (Err why) t result = (t ≡ m) × (result ≡ Err why)
 
-pub record Evaluates (source : List ℕ) (budget : ℕ) (s t : Seated) (result : Result Evaluated EngineError) : Type 0 where
+pub record Evaluates (source : List ℕ) (budget : ℕ) (s t : Seated) (result : Result EvalReply EngineError) : Type 0 where
   pub behind : Seated
   pub first : Result (List ℕ × Submitted) EngineError
   pub submits : Submits source s behind first

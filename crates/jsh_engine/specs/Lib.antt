@@ -1,4 +1,7 @@
 pub mod Seats
 pub mod Attempts
+pub mod Entering
 pub mod Driving
 pub mod Evaluating
+pub mod Meeting
+pub mod Shared

@@ -1,5 +1,5 @@
 -- What contracts see of a seat, and what it may learn while it waits for the turn.
-use Rattle.std.specs.Prelude.{◌≡◌, ℕ, ◌<◌, ◌==◌, Bool, true, false, List, ◌++◌, length}
+use Rattle.std.specs.Prelude.{◌≡◌, ℕ, ◌==◌, Bool, true, false, List, ◌++◌}
 use Rattle.std.specs.List.{filter, list_any, Contains}
 use Rattle.atomic_table.specs.Seated.{TableId}
 use Rattle.jsh_snippet.specs.declared.acts.Act.{Act}

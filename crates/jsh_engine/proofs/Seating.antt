@@ -1,0 +1,96 @@
+-- A seat before and after a call.
+use Rattle.std.proofs.Common.{◌≡◌, ◌⊎◌, inl, inr, ℕ, Bool, true, false, List, [], ◌++◌, Option, None, Some, Result, Ok, Err, IsSome, refl, ap, sym, ◌∙◌, subst}
+use Rattle.std.specs.List.{list_any}
+use Rattle.atomic_table.specs.Seated.{TableId}
+use Rattle.jsh_snippet.specs.declared.acts.Act.{Act}
+use Rattle.jsh_snippet.specs.declared.acts.Act.TheVariants as act
+use Rattle.jsh_snippet.specs.declared.acts.Entry.{Entry}
+use Rattle.jsh_snippet.specs.declared.replies.Reply.{Reply}
+use Rattle.jsh_core.specs.History.{state_of}
+use Rattle.jsh_core.specs.Runs.{run_view}
+use Rattle.jsh_turnlock.specs.declared.chronicle.Chronicle.{Ghosts}
+use Rattle.jsh_turnlock.specs.declared.handles.Pass.{Pass}
+use Rattle.jsh_turnlock.specs.Known.{seen_by}
+use Rattle.jsh_engine.specs.declared.errors.EngineError.{EngineError}
+use Rattle.jsh_engine.specs.declared.driven.Driven.{Driven}
+use Rattle.jsh_engine.specs.declared.driven.Driven.TheVariants as driven
+use Rattle.jsh_engine.specs.declared.driven.Pumped.{Pumped}
+use Rattle.jsh_engine.specs.declared.driven.Pumped.TheVariants as pumped
+use Rattle.jsh_engine.specs.Seats.{has_left, is_leave, own, Finds, IsAt, IsSameSeat, Seated}
+use Rattle.jsh_engine.specs.Attempts.{attempt, Calls, IsAsked}
+use Rattle.jsh_engine.specs.Driving.{drive_move, last_turn, main_of, pump_move, Drives, Pumps}
+use Rattle.jsh_engine.specs.Meeting.{Learns}
+use Rattle.jsh_engine.specs.Shared.{entries, seated, seated_or, IsKept}
+use Rattle.jsh_engine.proofs.Adding.{is_turn, adds-last, adds-stays, comes-adds, move-adds, Adds}
+
+module _ {T : Type 0} {g : Ghosts T Act} where
+  -- the pass of a seat, as that seat
+  pub opened : (kept : Option (Pass T Act g)) (pass : Pass T Act g) (cursor : ℕ) (s : Seated) → kept ≡ Some pass → seated_or kept cursor ≡ s → seated pass cursor ≡ s
+  opened kept pass cursor s is view = ap (λ (p : Option (Pass T Act g)). seated_or p cursor) (sym is) ∙ view
+
+  pub has-pass : (kept : Option (Pass T Act g)) (turned : ℕ) → IsKept kept turned → IsSome kept
+  has-pass None turned here = absurd here
+  has-pass (Some pass) turned here = refl
+
+  pub turned-of : (kept : Option (Pass T Act g)) (pass : Pass T Act g) (turned : ℕ) → kept ≡ Some pass → IsKept kept turned → turned ≡ last_turn 0 (own (entries (seen_by pass)) pass.number)
+  turned-of kept pass turned is here = subst (λ (p : Option (Pass T Act g)). IsKept p turned) is here
+
+-- a call of which nothing but turns is asked elsewhere
+pub asked-unturned : (client : ℕ) (what : Act) → IsAsked client what → is_turn what ≡ false
+asked-unturned client (act.Turn thread steps) asked = absurd asked
+asked-unturned client act.Enter asked = refl
+asked-unturned client (act.Submit source) asked = refl
+asked-unturned client (act.Collect run) asked = refl
+asked-unturned client (act.Expire run steps) asked = refl
+asked-unturned client (act.Stop run) asked = refl
+asked-unturned client (act.Drop target) asked = refl
+asked-unturned client (act.Ask question) asked = refl
+asked-unturned client act.Reset asked = refl
+asked-unturned client act.Leave asked = refl
+asked-unturned client act.Close asked = refl
+
+-- what was added is known of the seat behind the call
+added-last : (asked : Act) (s t : Seated) (before : List Entry) → Finds s before → IsSameSeat s t → Adds asked s.number before t.seen → is_turn asked ≡ false →
+    last_turn 0 (own t.seen t.number) ≡ last_turn 0 (own s.seen s.number)
+added-last asked s t before finds same adds plain =
+    ap (λ n. last_turn 0 (own t.seen n)) same.number ∙ adds-last asked s.number before t.seen adds plain ∙ ap (last_turn 0) finds.own_entries
+
+added-stays : (asked : Act) (engine : TableId) (s t : Seated) (before : List Entry) → Finds s before → IsSameSeat s t → Adds asked s.number before t.seen → is_leave asked ≡ false →
+    IsAt engine s → IsAt engine t
+added-stays asked engine s t before finds same adds plain here = record {
+  here = same.engine ∙ here.here;
+  there = ap (has_left t.seen) same.number
+      ∙ adds-stays asked s.number before t.seen adds plain (ap (λ (l : List Entry). list_any (λ (e : Entry). is_leave e.act) l) finds.own_entries ∙ here.there);
+}
+
+pub calls-last : {A : Type 0} (gives : Result Reply EngineError → Result A EngineError → Type 0) (what : Act) (s t : Seated) (result : Result A EngineError) →
+    Calls gives (λ (before : List Entry). attempt before s.number what) s t result → is_turn what ≡ false → last_turn 0 (own t.seen t.number) ≡ last_turn 0 (own s.seen s.number)
+calls-last gives what s t result calls plain =
+    added-last what s t calls.before calls.finds calls.same (comes-adds gives calls.before s.number what result t.seen calls.comes) plain
+
+pub calls-stays : {A : Type 0} (gives : Result Reply EngineError → Result A EngineError → Type 0) (what : Act) (engine : TableId) (s t : Seated) (result : Result A EngineError) →
+    Calls gives (λ (before : List Entry). attempt before s.number what) s t result → is_leave what ≡ false → IsAt engine s → IsAt engine t
+calls-stays gives what engine s t result calls plain here =
+    added-stays what engine s t calls.before calls.finds calls.same (comes-adds gives calls.before s.number what result t.seen calls.comes) plain here
+
+pub drives-stays : (run most : ℕ) (engine : TableId) (s t : Seated) (result : Result Driven EngineError) → Drives run most s t result → IsAt engine s → IsAt engine t
+drives-stays run most engine s t result drives here =
+    added-stays (act.Turn 0 0) engine s t drives.before drives.finds drives.same
+    (move-adds driven.Ran (Some run) (main_of (run_view (state_of drives.before) run)) s.number most drives.before s.cursor (drive_move drives.before s.number s.cursor run) result t.seen t.cursor drives.comes)
+    refl here
+
+pub pumps-stays : (most : ℕ) (engine : TableId) (s t : Seated) (result : Result Pumped EngineError) → Pumps most s t result → IsAt engine s → IsAt engine t
+pumps-stays most engine s t result pumps here =
+    added-stays (act.Turn 0 0) engine s t pumps.before pumps.finds pumps.same
+    (move-adds pumped.Ran None None s.number most pumps.before s.cursor (pump_move pumps.before s.cursor) result t.seen t.cursor pumps.comes)
+    refl here
+
+-- a seat that has learned more has the entries that it had
+pub learns-last : (s t : Seated) → IsSameSeat s t → Finds s t.seen → last_turn 0 (own t.seen t.number) ≡ last_turn 0 (own s.seen s.number)
+learns-last s t same finds = ap (λ n. last_turn 0 (own t.seen n)) same.number ∙ ap (last_turn 0) finds.own_entries
+
+pub learns-stays : (engine : TableId) (s t : Seated) → IsSameSeat s t → Finds s t.seen → IsAt engine s → IsAt engine t
+learns-stays engine s t same finds here = record {
+  here = same.engine ∙ here.here;
+  there = ap (has_left t.seen) same.number ∙ ap (λ (l : List Entry). list_any (λ (e : Entry). is_leave e.act) l) finds.own_entries ∙ here.there;
+}
