@@ -6,3 +6,5 @@ pub mod Turns
 pub mod Moves
 pub mod Replies
 pub mod Seating
+pub mod Silence
+pub mod Evaluations

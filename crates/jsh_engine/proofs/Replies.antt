@@ -27,7 +27,7 @@ abbrev IsOneOf : {A : Type 0} → (A → ReplyBody) → ReplyBody → Type 0
 IsOneOf {A} says what = ((why : Refusal) × (what ≡ body.Refused why)) ⊎ ((x : A) × (what ≡ says x))
 
 -- the body of a reply is that of its act
-step-body : (s : State) (client : ℕ) (what : Act) → (step s (by client what)).reply.body ≡ (act_step s client what).body
+pub step-body : (s : State) (client : ℕ) (what : Act) → (step s (by client what)).reply.body ≡ (act_step s client what).body
 step-body s client what = let is : IsDelivered (act_step s client what) (delivered client (act_step s client what)) = delivers client (act_step s client what) in is.body
 
 submit-body : (s : State) (client : ℕ) (source : List ℕ) → IsOneOf body.Submitted (submitted s client source).body
