@@ -35,14 +35,15 @@ pairs-append (entry ∷ one) other = ap (λ (rest : List (ℕ × Act)). (entry.c
 
 pub own-entries : (history : List (ℕ × Act)) (client : ℕ) → own (entries history) client ≡ entries (lock.own history client)
 own-entries [] client = refl
-own-entries (pair ∷ history) client = from (pair.0 == client)
+own-entries (pair ∷ history) client = from (pair.0 == client) (own-entries history client)
   where
     first : Entry
     first = record { client = pair.0; act = pair.1 }
 
-    from : (mine : Bool) → cond mine (first ∷ own (entries history) client) (own (entries history) client) ≡ entries (cond mine (pair ∷ lock.own history client) (lock.own history client))
-    from true = ap (λ (rest : List Entry). first ∷ rest) (own-entries history client)
-    from false = own-entries history client
+    from : (mine : Bool) → own (entries history) client ≡ entries (lock.own history client) →
+        cond mine (first ∷ own (entries history) client) (own (entries history) client) ≡ entries (cond mine (pair ∷ lock.own history client) (lock.own history client))
+    from true rest = ap (λ (l : List Entry). first ∷ l) rest
+    from false rest = rest
 
 pub entries-starts : (history seen : List (ℕ × Act)) → lock.StartsWith history seen → StartsWith (entries history) (entries seen)
 entries-starts history seen begins = (entries begins.0, ap entries begins.1 ∙ entries-append seen begins.0)

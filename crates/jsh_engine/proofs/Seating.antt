@@ -10,18 +10,20 @@ use Rattle.jsh_core.specs.History.{state_of}
 use Rattle.jsh_core.specs.Runs.{run_view}
 use Rattle.jsh_turnlock.specs.declared.chronicle.Chronicle.{Ghosts}
 use Rattle.jsh_turnlock.specs.declared.handles.Pass.{Pass}
-use Rattle.jsh_turnlock.specs.Known.{seen_by}
+use Rattle.jsh_turnlock.specs.History as lock
+use Rattle.jsh_turnlock.specs.Known.{gathered_by, lock_of, seen_by, KeepsGathered}
 use Rattle.jsh_engine.specs.declared.errors.EngineError.{EngineError}
 use Rattle.jsh_engine.specs.declared.driven.Driven.{Driven}
 use Rattle.jsh_engine.specs.declared.driven.Driven.TheVariants as driven
 use Rattle.jsh_engine.specs.declared.driven.Pumped.{Pumped}
 use Rattle.jsh_engine.specs.declared.driven.Pumped.TheVariants as pumped
 use Rattle.jsh_engine.specs.Seats.{has_left, is_leave, own, Finds, IsAt, IsSameSeat, Seated}
-use Rattle.jsh_engine.specs.Attempts.{attempt, Calls, IsAsked}
-use Rattle.jsh_engine.specs.Driving.{drive_move, last_turn, main_of, pump_move, Drives, Pumps}
+use Rattle.jsh_engine.specs.Attempts.{attempt, Attempt, Calls, ComesTo, IsAsked}
+use Rattle.jsh_engine.specs.Driving.{drive_move, last_turn, main_of, pump_move, DriveComes, Drives, PumpComes, Pumps}
 use Rattle.jsh_engine.specs.Meeting.{Learns}
-use Rattle.jsh_engine.specs.Shared.{entries, seated, seated_or, IsKept}
+use Rattle.jsh_engine.specs.Shared.{entries, pairs, seated, seated_or, IsKept}
 use Rattle.jsh_engine.proofs.Adding.{is_turn, adds-last, adds-stays, comes-adds, move-adds, Adds}
+use Rattle.jsh_engine.proofs.Histories.{entries-own, entries-pairs, pairs-found}
 
 module _ {T : Type 0} {g : Ghosts T Act} where
   -- the pass of a seat, as that seat
@@ -34,6 +36,65 @@ module _ {T : Type 0} {g : Ghosts T Act} where
 
   pub turned-of : (kept : Option (Pass T Act g)) (pass : Pass T Act g) (turned : ℕ) → kept ≡ Some pass → IsKept kept turned → turned ≡ last_turn 0 (own (entries (seen_by pass)) pass.number)
   turned-of kept pass turned is here = subst (λ (p : Option (Pass T Act g)). IsKept p turned) is here
+
+  -- a pass before and after a turn that found one history and left another
+  pub record IsTaken (pass given : Pass T Act g) (before after : List Entry) : Type 0 where
+    pub finds : (cursor : ℕ) → Finds (seated pass cursor) before
+    pub same : (cursor next : ℕ) → IsSameSeat (seated pass cursor) (seated given next)
+    pub seen : entries (seen_by given) ≡ after
+
+  pub taken : (pass given : Pass T Act g) (before after : List Entry) → lock.StartsWith (pairs before) (seen_by pass) →
+      lock.own (pairs before) pass.number ≡ lock.own (seen_by pass) pass.number → KeepsGathered pass (pairs before) →
+      lock_of given ≡ lock_of pass → given.number ≡ pass.number → gathered_by given ≡ gathered_by pass → seen_by given ≡ pairs after → IsTaken pass given before after
+  taken pass given before after begins mine gathered engine number ended seen = record {
+    finds = λ cursor. pairs-found pass cursor before begins mine gathered;
+    same = λ cursor next. record { engine = engine; number = number; gathered = ended };
+    seen = ap entries seen ∙ entries-pairs after;
+  }
+
+  -- what a pass has seen of its client is what stands in the history that it finds
+  pub found-own : (pass : Pass T Act g) (before : List Entry) → lock.own (pairs before) pass.number ≡ lock.own (seen_by pass) pass.number →
+      own before pass.number ≡ own (entries (seen_by pass)) pass.number
+  found-own pass before mine = ap (λ (h : List Entry). own h pass.number) (sym (entries-pairs before)) ∙ entries-own (pairs before) (seen_by pass) pass.number mine
+
+  pub found-there : (pass : Pass T Act g) (before : List Entry) → lock.own (pairs before) pass.number ≡ lock.own (seen_by pass) pass.number →
+      has_left (entries (seen_by pass)) pass.number ≡ false → has_left before pass.number ≡ false
+  found-there pass before mine there = ap (list_any (λ (e : Entry). is_leave e.act)) (found-own pass before mine) ∙ there
+
+  pub calls-taken : {A : Type 0} (gives : Result Reply EngineError → Result A EngineError → Type 0) (tries : List Entry → Attempt) (pass given : Pass T Act g) (before after : List Entry)
+      (result : Result A EngineError) → IsTaken pass given before after → ComesTo gives before (tries before) result after → (cursor : ℕ) → Calls gives tries (seated pass cursor) (seated given cursor) result
+  calls-taken gives tries pass given before after result turn comes cursor = record {
+    before = before;
+    finds = turn.finds cursor;
+    same = turn.same cursor cursor;
+    cursor = refl;
+    comes = subst (λ (h : List Entry). ComesTo gives before (tries before) result h) (sym turn.seen) comes;
+  }
+
+  pub drives-taken : (run most : ℕ) (pass given : Pass T Act g) (before after : List Entry) (cursor next : ℕ) (result : Result Driven EngineError) → IsTaken pass given before after →
+      DriveComes run most pass.number before cursor result after next → Drives run most (seated pass cursor) (seated given next) result
+  drives-taken run most pass given before after cursor next result turn comes = record {
+    before = before;
+    finds = turn.finds cursor;
+    same = turn.same cursor next;
+    comes = subst (λ (h : List Entry). DriveComes run most pass.number before cursor result h next) (sym turn.seen) comes;
+  }
+
+  pub pumps-taken : (most : ℕ) (pass given : Pass T Act g) (before after : List Entry) (cursor next : ℕ) (result : Result Pumped EngineError) → IsTaken pass given before after →
+      PumpComes most pass.number before cursor result after next → Pumps most (seated pass cursor) (seated given next) result
+  pumps-taken most pass given before after cursor next result turn comes = record {
+    before = before;
+    finds = turn.finds cursor;
+    same = turn.same cursor next;
+    comes = subst (λ (h : List Entry). PumpComes most pass.number before cursor result h next) (sym turn.seen) comes;
+  }
+
+  -- the thread of the last Turn is the client's, as its pass has it
+  pub last-taken : (pass given : Pass T Act g) (before after : List Entry) (turned : ℕ) → IsTaken pass given before after → turned ≡ last_turn 0 (own after pass.number) →
+      turned ≡ last_turn 0 (own (entries (seen_by given)) given.number)
+  last-taken pass given before after turned turn is =
+      let same : IsSameSeat (seated pass 0) (seated given 0) = turn.same 0 0 in
+      is ∙ ap (λ (h : List Entry). last_turn 0 (own h pass.number)) (sym turn.seen) ∙ ap (λ n. last_turn 0 (own (entries (seen_by given)) n)) (sym same.number)
 
 -- a call of which nothing but turns is asked elsewhere
 pub asked-unturned : (client : ℕ) (what : Act) → IsAsked client what → is_turn what ≡ false
