@@ -165,7 +165,8 @@ impl Engine {
     pub fn gather(&self, seat: &mut Seat, gone: Seat)
         requires seat { seat.old.engine ≡ self.now }
         requires gone { gone.engine ≡ self.now }
-        ensures { Gathers seat.old gone seat.new }
+        ensures gathers { Gathers seat.old gone seat.new }
+        ensures stays { IsAt self.now seat.old → IsAt self.now seat.new }
     {
         let Seat {
             pass: gone,

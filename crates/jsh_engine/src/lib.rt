@@ -13,6 +13,8 @@ mod passes;
 mod replies;
 mod seat;
 mod shared;
+#[cfg(test)]
+mod tests;
 mod turns;
 
 pub use driven::{Driven, Pumped};
