@@ -10,17 +10,22 @@ use Rattle.jsh_snippet.specs.declared.acts.Entry.{Entry}
 use Rattle.jsh_snippet.specs.declared.replies.Reply.{Reply}
 use Rattle.jsh_snippet.specs.declared.replies.ReplyBody.{ReplyBody}
 use Rattle.jsh_core.specs.State.{State}
+use Rattle.jsh_core.specs.Runs.{run_view}
 use Rattle.jsh_core.specs.Step.{kept_act, step}
 use Rattle.jsh_core.specs.History.{state_of}
 use Rattle.jsh_core.specs.Stands.{HasTurned}
 use Rattle.jsh_core.proofs.Steps.{state_of-push}
 use Rattle.jsh_turnlock.specs.History as lock
 use Rattle.jsh_engine.specs.declared.errors.EngineError.{EngineError}
+use Rattle.jsh_engine.specs.declared.driven.Driven.{Driven}
+use Rattle.jsh_engine.specs.declared.driven.Driven.TheVariants as driven
+use Rattle.jsh_engine.specs.declared.driven.Pumped.{Pumped}
+use Rattle.jsh_engine.specs.declared.driven.Pumped.TheVariants as pumped
 use Rattle.jsh_engine.specs.declared.moves.Move.{Move}
 use Rattle.jsh_engine.specs.declared.moves.Move.TheVariants.{Answers, Turns}
 use Rattle.jsh_engine.specs.Seats.{has_left, is_leave, own, Finds, IsSameSeat, Seated}
 use Rattle.jsh_engine.specs.Attempts.{attempt, attempt_unless, barred, is_enter, ComesTo}
-use Rattle.jsh_engine.specs.Driving.{last_turn, turned_thread, IsTurn, MoveComes}
+use Rattle.jsh_engine.specs.Driving.{drive_move, last_turn, main_of, pump_move, turned_thread, DriveComes, IsTurn, MoveComes, PumpComes}
 use Rattle.jsh_engine.specs.Shared.{pairs, AreNumbered}
 use Rattle.jsh_engine.proofs.Clients.{numbered-push, own-mine, own-push, step-clients}
 use Rattle.jsh_engine.proofs.Histories.{added-none, added-one}
@@ -71,11 +76,21 @@ pub turned-adds : (client thread most : ℕ) (before after : List Entry) → (af
 turned-adds client thread most before after (inl same) = nothing same
 turned-adds client thread most before after (inr turned) = one (act.Turn thread turned.done) (turn-alike thread turned.done) turned.longer
 
-pub move-adds : {A : Type 0} (ran : ℕ → ℕ → A) (run main : Option ℕ) (client most : ℕ) (before : List Entry) (cursor : ℕ) (next : Move A) (result : Result A EngineError) (after : List Entry)
+move-adds : {A : Type 0} (ran : ℕ → ℕ → A) (run main : Option ℕ) (client most : ℕ) (before : List Entry) (cursor : ℕ) (next : Move A) (result : Result A EngineError) (after : List Entry)
     (next_cursor : ℕ) → MoveComes ran run main client most before cursor next result after next_cursor → Adds (act.Turn 0 0) client before after
 move-adds ran run main client most before cursor (Answers answer) result after next_cursor comes = nothing comes.1
 move-adds ran run main client most before cursor (Turns thread) result after next_cursor (inl ran_on) = one (act.Turn thread ran_on.0) (turn-alike thread ran_on.0) ran_on.1.longer
 move-adds ran run main client most before cursor (Turns thread) result after next_cursor (inr short) = turned-adds client thread most before after short.1
+
+pub drive-adds : (run most client : ℕ) (before : List Entry) (cursor : ℕ) (result : Result Driven EngineError) (after : List Entry) (next_cursor : ℕ) →
+    DriveComes run most client before cursor result after next_cursor → Adds (act.Turn 0 0) client before after
+drive-adds run most client before cursor result after next_cursor comes =
+    move-adds driven.Ran (Some run) (main_of (run_view (state_of before) run)) client most before cursor (drive_move before client cursor run) result after next_cursor comes
+
+pub pump-adds : (most client : ℕ) (before : List Entry) (cursor : ℕ) (result : Result Pumped EngineError) (after : List Entry) (next_cursor : ℕ) →
+    PumpComes most client before cursor result after next_cursor → Adds (act.Turn 0 0) client before after
+pump-adds most client before cursor result after next_cursor comes =
+    move-adds pumped.Ran None None client most before cursor (pump_move before cursor) result after next_cursor comes
 
 pub adds-lock : (asked : Act) (client : ℕ) (before after : List Entry) → Adds asked client before after → lock.IsAddedBy client (pairs before) (pairs after)
 adds-lock asked client before after (nothing same) = subst (λ (h : List Entry). lock.IsAddedBy client (pairs before) (pairs h)) (sym same) (added-none client (pairs before))

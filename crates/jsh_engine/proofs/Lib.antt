@@ -4,6 +4,7 @@ pub mod Allowed
 pub mod Adding
 pub mod Turns
 pub mod Moves
+pub mod Handing
 pub mod Replies
 pub mod Seating
 pub mod Silence

@@ -1,5 +1,5 @@
 -- A thread that has its turn can have it.
-use Rattle.std.proofs.Common.{◌≡◌, ℕ, ◌==◌, Bool, true, false, not, List, Option, None, Some, Ok, Err, length, cond, refl}
+use Rattle.std.proofs.Common.{◌≡◌, ℕ, ◌==◌, Bool, true, false, not, List, Option, None, Some, Ok, Err, length, cond, refl, ap}
 use Rattle.jsh_snippet.specs.declared.acts.Entry.{Entry}
 use Rattle.jsh_snippet.specs.declared.replies.Refusal.TheVariants as refusal
 use Rattle.jsh_sched.specs.Pick.{picked}
@@ -34,7 +34,7 @@ turns-picked : {A : Type 0} (idle : A) (before : List Entry) (found : Option ℕ
 turns-picked idle before None thread e = cc
 turns-picked {A} idle before (Some picked) thread e =
     let both : (barred_by_length before ≡ None) × (picked ≡ thread) = turns-room {A = A} (barred_by_length before) picked thread e in
-    (cc, both.0)
+    (ap Some both.1, both.0)
 
 can-turn : (before : List Entry) (cursor : ℕ) (main : Option ℕ) (first : Bool) (thread : ℕ) → barred_by_close before ≡ None → barred_by_length before ≡ None →
     picked (state_of before).world.states cursor main first ≡ Some thread → CanTurn before thread

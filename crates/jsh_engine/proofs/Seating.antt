@@ -6,23 +6,19 @@ use Rattle.jsh_snippet.specs.declared.acts.Act.{Act}
 use Rattle.jsh_snippet.specs.declared.acts.Act.TheVariants as act
 use Rattle.jsh_snippet.specs.declared.acts.Entry.{Entry}
 use Rattle.jsh_snippet.specs.declared.replies.Reply.{Reply}
-use Rattle.jsh_core.specs.History.{state_of}
-use Rattle.jsh_core.specs.Runs.{run_view}
 use Rattle.jsh_turnlock.specs.declared.chronicle.Chronicle.{Ghosts}
 use Rattle.jsh_turnlock.specs.declared.handles.Pass.{Pass}
 use Rattle.jsh_turnlock.specs.History as lock
 use Rattle.jsh_turnlock.specs.Known.{gathered_by, lock_of, seen_by, KeepsGathered}
 use Rattle.jsh_engine.specs.declared.errors.EngineError.{EngineError}
 use Rattle.jsh_engine.specs.declared.driven.Driven.{Driven}
-use Rattle.jsh_engine.specs.declared.driven.Driven.TheVariants as driven
 use Rattle.jsh_engine.specs.declared.driven.Pumped.{Pumped}
-use Rattle.jsh_engine.specs.declared.driven.Pumped.TheVariants as pumped
 use Rattle.jsh_engine.specs.Seats.{has_left, is_leave, own, Finds, IsAt, IsSameSeat, Seated}
 use Rattle.jsh_engine.specs.Attempts.{attempt, Attempt, Calls, ComesTo, IsAsked}
-use Rattle.jsh_engine.specs.Driving.{drive_move, last_turn, main_of, pump_move, DriveComes, Drives, PumpComes, Pumps}
+use Rattle.jsh_engine.specs.Driving.{last_turn, DriveComes, Drives, PumpComes, Pumps}
 use Rattle.jsh_engine.specs.Meeting.{Learns}
 use Rattle.jsh_engine.specs.Shared.{entries, pairs, seated, seated_or, IsKept}
-use Rattle.jsh_engine.proofs.Adding.{is_turn, adds-last, adds-stays, comes-adds, move-adds, Adds}
+use Rattle.jsh_engine.proofs.Adding.{is_turn, adds-last, adds-stays, comes-adds, drive-adds, pump-adds, Adds}
 use Rattle.jsh_engine.proofs.Histories.{entries-own, entries-pairs, pairs-found}
 
 module _ {T : Type 0} {g : Ghosts T Act} where
@@ -137,13 +133,13 @@ calls-stays gives what engine s t result calls plain here =
 pub drives-stays : (run most : ℕ) (engine : TableId) (s t : Seated) (result : Result Driven EngineError) → Drives run most s t result → IsAt engine s → IsAt engine t
 drives-stays run most engine s t result drives here =
     added-stays (act.Turn 0 0) engine s t drives.before drives.finds drives.same
-    (move-adds driven.Ran (Some run) (main_of (run_view (state_of drives.before) run)) s.number most drives.before s.cursor (drive_move drives.before s.number s.cursor run) result t.seen t.cursor drives.comes)
+    (drive-adds run most s.number drives.before s.cursor result t.seen t.cursor drives.comes)
     refl here
 
 pub pumps-stays : (most : ℕ) (engine : TableId) (s t : Seated) (result : Result Pumped EngineError) → Pumps most s t result → IsAt engine s → IsAt engine t
 pumps-stays most engine s t result pumps here =
     added-stays (act.Turn 0 0) engine s t pumps.before pumps.finds pumps.same
-    (move-adds pumped.Ran None None s.number most pumps.before s.cursor (pump_move pumps.before s.cursor) result t.seen t.cursor pumps.comes)
+    (pump-adds most s.number pumps.before s.cursor result t.seen t.cursor pumps.comes)
     refl here
 
 -- a seat that has learned more has the entries that it had

@@ -1,5 +1,5 @@
 -- A turn of a thread that can go on.
-use Rattle.std.proofs.Common.{◌≡◌, ◌⊎◌, inl, inr, ℕ, zero, suc, ◌+◌, ◌<◌, ◌≤◌, ◌==◌, Bool, true, false, List, [], ◌∷◌, ◌++◌, length, length-append, ltb, cond, refl, ap, sym, ◌∙◌, subst, arith}
+use Rattle.std.proofs.Common.{◌≡◌, ◌⊎◌, inl, inr, ℕ, ◌+◌, ◌<◌, ◌≤◌, ◌==◌, Bool, true, false, List, [], ◌∷◌, ◌++◌, length, length-append, ltb, ne_eqb, cond, refl, ap, sym, ◌∙◌, subst, arith}
 use Rattle.std.proofs.lemmas.Bool.{le-ltb, lt-ltb}
 use Rattle.jsh_snippet.specs.declared.acts.Act.{Act}
 use Rattle.jsh_snippet.specs.declared.acts.Act.TheVariants as act
@@ -26,8 +26,7 @@ turn-counted s client thread most goes some =
 
 -- where some steps were done, these are kept
 kept-steps : (asked steps : ℕ) → 0 < steps → done_steps asked (body.Turned steps) ≡ steps
-kept-steps asked zero some = absurd (omega arith)
-kept-steps asked (suc steps) some = refl
+kept-steps asked steps some = ap (λ b. cond b asked steps) (ne_eqb steps 0 (λ e. omega arith))
 
 -- a turn that was done stands with the steps that its reply counts
 pub turn-stands : (before : List Entry) (client thread most : ℕ) (reply : Reply) (steps : ℕ) (after : List Entry) → can_go_on (state_of before).world thread ≡ true → 1 ≤ most →

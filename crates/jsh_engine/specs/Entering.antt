@@ -19,10 +19,10 @@ pub record IsNumbered (engine : TableId) (before : List Entry) (reply : Reply) (
   pub seat_is : seat ≡ newcomer engine seat.number before
   pub none : own before seat.number ≡ []
 
-abbrev pub Seats : TableId → List Entry → Result Reply EngineError → Result (List ℕ × Seated) EngineError → Type 0
-Seats engine before (Ok reply) (Ok told) = IsNumbered engine before reply told.0 told.1
-Seats engine before (Err why) (Err told) = told ≡ why
-Seats engine before _ _ = ⊥
+abbrev pub Admits : TableId → List Entry → Result Reply EngineError → Result (List ℕ × Seated) EngineError → Type 0
+Admits engine before (Ok reply) (Ok told) = IsNumbered engine before reply told.0 told.1
+Admits engine before (Err why) (Err told) = told ≡ why
+Admits engine before _ _ = ⊥
 
 -- an Enter by a seat, with the new client's seat
 pub record Enters (s t : Seated) (result : Result (List ℕ × Seated) EngineError) : Type 0 where
@@ -30,4 +30,4 @@ pub record Enters (s t : Seated) (result : Result (List ℕ × Seated) EngineErr
   pub finds : Finds s before
   pub same : IsSameSeat s t
   pub cursor : t.cursor ≡ s.cursor
-  pub comes : ComesTo (Seats s.engine before) before (attempt before s.number act.Enter) result t.seen
+  pub comes : ComesTo (Admits s.engine before) before (attempt before s.number act.Enter) result t.seen

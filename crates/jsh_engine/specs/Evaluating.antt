@@ -39,7 +39,7 @@ turn_steps budget used = min most_steps (budget - used)
 
 -- within the evaluation of a run, want of memory names the run
 abbrev pub naming : ℕ → EngineError → EngineError
-naming run (error.NoMemory none) = error.NoMemory (Some run)
+naming run (error.NoMemory other) = error.NoMemory (Some run)
 naming run why = why
 
 -- The rest of an evaluation of a run, of whose budget so many steps are used, with the output so far: up to its outcome, or to the

@@ -150,7 +150,8 @@ impl Engine {
         }
         match self.drive(rt, alloc, seat, run, turn_steps(budget - used)) {
             Ok(Driven::Ran { thread: _, steps }) => Advance::Ran(steps, output),
-            Ok(_) => self.ask_for_outcome(rt, alloc, seat, run, output),
+            Ok(Driven::Over) => self.ask_for_outcome(rt, alloc, seat, run, output),
+            Ok(Driven::Idle { len: _ }) => self.ask_for_outcome(rt, alloc, seat, run, output),
             Err(why) => Advance::Ends(Err(naming(run, why))),
         }
     }
