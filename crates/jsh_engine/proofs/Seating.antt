@@ -9,7 +9,7 @@ use Rattle.jsh_snippet.specs.declared.replies.Reply.{Reply}
 use Rattle.jsh_turnlock.specs.declared.chronicle.Chronicle.{Ghosts}
 use Rattle.jsh_turnlock.specs.declared.handles.Pass.{Pass}
 use Rattle.jsh_turnlock.specs.History as lock
-use Rattle.jsh_turnlock.specs.Known.{gathered_by, lock_of, seen_by, KeepsGathered}
+use Rattle.jsh_turnlock.specs.Known.{gathered_by, lock_of, seen_by, IsSamePass, KeepsGathered}
 use Rattle.jsh_engine.specs.declared.errors.EngineError.{EngineError}
 use Rattle.jsh_engine.specs.declared.driven.Driven.{Driven}
 use Rattle.jsh_engine.specs.declared.driven.Pumped.{Pumped}
@@ -19,7 +19,7 @@ use Rattle.jsh_engine.specs.Driving.{last_turn, DriveComes, Drives, PumpComes, P
 use Rattle.jsh_engine.specs.Meeting.{Learns}
 use Rattle.jsh_engine.specs.Shared.{entries, pairs, seated, seated_or, IsKept}
 use Rattle.jsh_engine.proofs.Adding.{is_turn, adds-last, adds-stays, comes-adds, drive-adds, pump-adds, Adds}
-use Rattle.jsh_engine.proofs.Histories.{entries-own, entries-pairs, pairs-found}
+use Rattle.jsh_engine.proofs.Histories.{entries-found, entries-own, entries-pairs, pairs-found}
 
 module _ {T : Type 0} {g : Ghosts T Act} where
   -- the pass of a seat, as that seat
@@ -143,11 +143,28 @@ pumps-stays most engine s t result pumps here =
     refl here
 
 -- a seat that has learned more has the entries that it had
-pub learns-last : (s t : Seated) → IsSameSeat s t → Finds s t.seen → last_turn 0 (own t.seen t.number) ≡ last_turn 0 (own s.seen s.number)
-learns-last s t same finds = ap (λ n. last_turn 0 (own t.seen n)) same.number ∙ ap (last_turn 0) finds.own_entries
+pub finds-last : (s t : Seated) → t.number ≡ s.number → Finds s t.seen → last_turn 0 (own t.seen t.number) ≡ last_turn 0 (own s.seen s.number)
+finds-last s t number finds = ap (λ n. last_turn 0 (own t.seen n)) number ∙ ap (last_turn 0) finds.own_entries
 
-pub learns-stays : (engine : TableId) (s t : Seated) → IsSameSeat s t → Finds s t.seen → IsAt engine s → IsAt engine t
-learns-stays engine s t same finds here = record {
-  here = same.engine ∙ here.here;
-  there = ap (has_left t.seen) same.number ∙ ap (λ (l : List Entry). list_any (λ (e : Entry). is_leave e.act) l) finds.own_entries ∙ here.there;
+pub finds-stays : (engine : TableId) (s t : Seated) → t.engine ≡ s.engine → t.number ≡ s.number → Finds s t.seen → IsAt engine s → IsAt engine t
+finds-stays engine s t same number finds here = record {
+  here = same ∙ here.here;
+  there = ap (has_left t.seen) number ∙ ap (λ (l : List Entry). list_any (λ (e : Entry). is_leave e.act) l) finds.own_entries ∙ here.there;
 }
+
+pub learns-last : (s t : Seated) → Learns s t → last_turn 0 (own t.seen t.number) ≡ last_turn 0 (own s.seen s.number)
+learns-last s t learns = let same : IsSameSeat s t = learns.same in finds-last s t same.number learns.finds
+
+pub learns-stays : (engine : TableId) (s t : Seated) → Learns s t → IsAt engine s → IsAt engine t
+learns-stays engine s t learns here = let same : IsSameSeat s t = learns.same in finds-stays engine s t same.engine same.number learns.finds here
+
+module _ {T : Type 0} {g : Ghosts T Act} where
+  -- a pass that has learned more of the history
+  pub learned : (pass after : Pass T Act g) (history : List (ℕ × Act)) → IsSamePass pass after → seen_by after ≡ history → lock.StartsWith history (seen_by pass) →
+      lock.own history after.number ≡ lock.own (seen_by pass) pass.number → KeepsGathered pass history → (cursor : ℕ) → Learns (seated pass cursor) (seated after cursor)
+  learned pass after history same seen begins mine gathered cursor = record {
+    same = record { engine = same.0; number = same.1; gathered = same.2 };
+    cursor = refl;
+    finds = subst (λ (h : List (ℕ × Act)). Finds (seated pass cursor) (entries h)) (sym seen)
+        (entries-found pass cursor history begins (ap (lock.own history) (sym same.1) ∙ mine) gathered);
+  }
