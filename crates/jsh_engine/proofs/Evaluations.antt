@@ -39,37 +39,37 @@ use Rattle.jsh_engine.specs.Advancing.{Asks, AsksWith, LeadsTo}
 use Rattle.jsh_engine.proofs.Replies.{comes-replied, step-body, Replied}
 use Rattle.jsh_engine.proofs.Silence.{no-output}
 
-parted-whole : {A : Type 0} (says : A → ReplyBody) (answer : Result Reply EngineError) (told : List ℕ × A) → Parted says answer (Ok told) → Ok (record { output = told.0; body = says told.1 }) ≡ answer
-parted-whole says (Ok reply) told given = ap Ok (sym given)
+parted-whole : {A : Type 0} (says : A → ReplyBody) (answer : Result Reply EngineError) (told : List ℕ × A) → Parted says answer (Ok told) → answer ≡ Ok (record { output = told.0; body = says told.1 })
+parted-whole says (Ok reply) told given = ap Ok given
 parted-whole says (Err why) told given = absurd given
 
 -- a reply by its parts is one whole
 pub parted-replied : {A : Type 0} (says : A → ReplyBody) (what : Act) (s t : Seated) (told : List ℕ × A) →
-    Calls (Parted says) (λ (before : List Entry). attempt before s.number what) s t (Ok told) → Replied what s.number (record { output = told.0; body = says told.1 })
+    (calls : Calls (Parted says) (λ (before : List Entry). attempt before s.number what) s t (Ok told)) → Replied calls.before what s.number (record { output = told.0; body = says told.1 })
 parted-replied {A} says what s t told calls = from calls.comes
   where
     tried : Attempt
     tried = attempt calls.before s.number what
 
-    from : ComesTo (Parted says) calls.before tried (Ok told) t.seen → Replied what s.number (record { output = told.0; body = says told.1 })
+    from : ComesTo (Parted says) calls.before tried (Ok told) t.seen → Replied calls.before what s.number (record { output = told.0; body = says told.1 })
     from (inl short) = let e : ◌≡◌ {A = Result (List ℕ × A) EngineError} (Ok told) (Err _) = short.0 in cc
-    from (inr done) = comes-replied calls.before s.number what (record { output = told.0; body = says told.1 }) t.seen (inr (parted-whole says tried.answer told done.0, done.1))
+    from (inr done) = comes-replied calls.before s.number what (record { output = told.0; body = says told.1 }) t.seen (inr (sym (parted-whole says tried.answer told done.0), done.1))
 
 pub parted-silent : {A : Type 0} (says : A → ReplyBody) (what : Act) (s t : Seated) (told : List ℕ × A) →
     Calls (Parted says) (λ (before : List Entry). attempt before s.number what) s t (Ok told) → told.0 ≡ []
 parted-silent says what s t told calls =
-    let replied : Replied what s.number (record { output = told.0; body = says told.1 }) = parted-replied says what s t told calls in
-    ap (λ (r : Reply). r.output) replied.is ∙ no-output replied.before (by s.number what)
+    let replied : Replied calls.before what s.number (record { output = told.0; body = says told.1 }) = parted-replied says what s t told calls in
+    ap (λ (r : Reply). r.output) replied.is ∙ no-output calls.before (by s.number what)
 
 -- an Expire doesn't answer that the run goes on
 pub expire-over : (run steps count : ℕ) (s t : Seated) (more : List ℕ) → evaluating.Expires run steps s t (Ok (more, «collected».Running count)) → ⊥
 expire-over run steps count s t more expires = from (expire state s.number run steps) (view-expire state s.number run steps) body_is
   where
-    replied : Replied (act.Expire run steps) s.number (record { output = more; body = body.Collected («collected».Running count) })
+    replied : Replied expires.before (act.Expire run steps) s.number (record { output = more; body = body.Collected («collected».Running count) })
     replied = parted-replied body.Collected (act.Expire run steps) s t (more, «collected».Running count) expires
 
     state : State
-    state = state_of replied.before
+    state = state_of expires.before
 
     body_is : body.Collected («collected».Running count) ≡ (expire state s.number run steps).body
     body_is = ap (λ (r : Reply). r.body) replied.is ∙ step-body state s.number (act.Expire run steps)

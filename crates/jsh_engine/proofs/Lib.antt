@@ -6,6 +6,7 @@ pub mod Turns
 pub mod Moves
 pub mod Handing
 pub mod Replies
+pub mod Entered
 pub mod Seating
 pub mod Silence
 pub mod Evaluations

@@ -1,5 +1,6 @@
 -- What acts are replied to, and what calls answer of it.
 use Rattle.std.proofs.Common.{◌≡◌, ◌⊎◌, inl, inr, ℕ, Bool, true, false, List, [], ◌∷◌, ◌++◌, Option, None, Some, Result, Ok, Err, refl, ap, sym, ◌∙◌, subst}
+use Rattle.std.proofs.lemmas.List.{append-nil}
 use Rattle.jsh_snippet.specs.declared.acts.Act.{Act}
 use Rattle.jsh_snippet.specs.declared.acts.Act.TheVariants as act
 use Rattle.jsh_snippet.specs.declared.acts.Entry.{Entry}
@@ -66,8 +67,7 @@ stop-body s client run = from (stop s client run) (view-stop s client run)
     from acted (standing own_run found there is) = inr (tt, ap (λ (a : Acted). a.body) is)
 
 -- a reply that is answered whole, and refuses nothing
-pub record Replied (what : Act) (client : ℕ) (reply : Reply) : Type 0 where
-  pub before : List Entry
+pub record Replied (before : List Entry) (what : Act) (client : ℕ) (reply : Reply) : Type 0 where
   pub is : reply ≡ (step (state_of before) (by client what)).reply
   pub free : barred before what ≡ None
   pub plain : (why : Refusal) → reply.body ≡ body.Refused why → ⊥
@@ -93,27 +93,27 @@ answered-whole found reply what is e = from what is e
     from body.Left is_b e = plainly body.Left is_b (λ why r. cc) e
     from body.Closed is_b e = plainly body.Closed is_b (λ why r. cc) e
 
-pub comes-replied : (before : List Entry) (client : ℕ) (what : Act) (reply : Reply) (after : List Entry) → ComesTo Whole before (attempt before client what) (Ok reply) after → Replied what client reply
+pub comes-replied : (before : List Entry) (client : ℕ) (what : Act) (reply : Reply) (after : List Entry) → ComesTo Whole before (attempt before client what) (Ok reply) after → Replied before what client reply
 comes-replied before client what reply after (inl short) = cc
 comes-replied before client what reply after (inr done) = from (barred before what) refl done.0
   where
     found : Reply
     found = (step (state_of before) (by client what)).reply
 
-    from : (bar : Option EngineError) → barred before what ≡ bar → Ok reply ≡ (attempt_unless bar before (by client what)).answer → Replied what client reply
-    from None free e = let whole = answered-whole found reply found.body refl (sym e) in record { before = before; is = whole.0; free = free; plain = whole.1 }
+    from : (bar : Option EngineError) → barred before what ≡ bar → Ok reply ≡ (attempt_unless bar before (by client what)).answer → Replied before what client reply
+    from None free e = let whole = answered-whole found reply found.body refl (sym e) in record { is = whole.0; free = free; plain = whole.1 }
     from (Some why) free e = cc
 
-pub hands-replied : (what : Act) (s t : Seated) (reply : Reply) → Hands what s t (Ok reply) → Replied what s.number reply
+pub hands-replied : (what : Act) (s t : Seated) (reply : Reply) (hands : Hands what s t (Ok reply)) → Replied hands.before what s.number reply
 hands-replied what s t reply hands = comes-replied hands.before s.number what reply t.seen hands.comes
 
 -- the body of such a reply is of its act's kind
-replied-kind : {A : Type 0} (says : A → ReplyBody) (what : Act) (client : ℕ) (reply : Reply) → ((s : State) → IsOneOf says (act_step s client what).body) → Replied what client reply →
-    (x : A) × (reply.body ≡ says x)
-replied-kind {A} says what client reply kind replied = from (kind s)
+replied-kind : {A : Type 0} (says : A → ReplyBody) (before : List Entry) (what : Act) (client : ℕ) (reply : Reply) → ((s : State) → IsOneOf says (act_step s client what).body) →
+    Replied before what client reply → (x : A) × (reply.body ≡ says x)
+replied-kind {A} says before what client reply kind replied = from (kind s)
   where
     s : State
-    s = state_of replied.before
+    s = state_of before
 
     is : reply.body ≡ (act_step s client what).body
     is = ap (λ (r : Reply). r.body) replied.is ∙ step-body s client what
@@ -122,20 +122,30 @@ replied-kind {A} says what client reply kind replied = from (kind s)
     from (inl refuses) = absurd (replied.plain refuses.0 (is ∙ refuses.1))
     from (inr told) = (told.0, is ∙ told.1)
 
-pub replied-submit : (client : ℕ) (source : List ℕ) (reply : Reply) → Replied (act.Submit source) client reply → (x : Submitted) × (reply.body ≡ body.Submitted x)
-replied-submit client source reply = replied-kind body.Submitted (act.Submit source) client reply (λ s. submit-body s client source)
+pub replied-submit : (before : List Entry) (client : ℕ) (source : List ℕ) (reply : Reply) → Replied before (act.Submit source) client reply → (x : Submitted) × (reply.body ≡ body.Submitted x)
+replied-submit before client source reply = replied-kind body.Submitted before (act.Submit source) client reply (λ s. submit-body s client source)
 
-pub replied-collect : (client run : ℕ) (reply : Reply) → Replied (act.Collect run) client reply → (x : Collected) × (reply.body ≡ body.Collected x)
-replied-collect client run reply = replied-kind body.Collected (act.Collect run) client reply (λ s. collect-body s client run)
+pub replied-collect : (before : List Entry) (client run : ℕ) (reply : Reply) → Replied before (act.Collect run) client reply → (x : Collected) × (reply.body ≡ body.Collected x)
+replied-collect before client run reply = replied-kind body.Collected before (act.Collect run) client reply (λ s. collect-body s client run)
 
-pub replied-expire : (client run steps : ℕ) (reply : Reply) → Replied (act.Expire run steps) client reply → (x : Collected) × (reply.body ≡ body.Collected x)
-replied-expire client run steps reply = replied-kind body.Collected (act.Expire run steps) client reply (λ s. expire-body s client run steps)
+pub replied-expire : (before : List Entry) (client run steps : ℕ) (reply : Reply) → Replied before (act.Expire run steps) client reply → (x : Collected) × (reply.body ≡ body.Collected x)
+replied-expire before client run steps reply = replied-kind body.Collected before (act.Expire run steps) client reply (λ s. expire-body s client run steps)
 
-pub replied-stop : (client run : ℕ) (reply : Reply) → Replied (act.Stop run) client reply → reply.body ≡ body.StopDone run
-replied-stop client run reply replied = (replied-kind (λ (u : Unit {0}). body.StopDone run) (act.Stop run) client reply (λ s. stop-body s client run) replied).1
+pub replied-stop : (before : List Entry) (client run : ℕ) (reply : Reply) → Replied before (act.Stop run) client reply → reply.body ≡ body.StopDone run
+replied-stop before client run reply replied = (replied-kind (λ (u : Unit {0}). body.StopDone run) before (act.Stop run) client reply (λ s. stop-body s client run) replied).1
 
-pub replied-close : (client : ℕ) (reply : Reply) → Replied act.Close client reply → reply.body ≡ body.Closed
-replied-close client reply replied = ap (λ (r : Reply). r.body) replied.is ∙ step-body (state_of replied.before) client act.Close
+pub replied-close : (before : List Entry) (client : ℕ) (reply : Reply) → Replied before act.Close client reply → reply.body ≡ body.Closed
+replied-close before client reply replied = ap (λ (r : Reply). r.body) replied.is ∙ step-body (state_of before) client act.Close
+
+-- a call that was short of memory before it had its turn
+pub calls-nothing : {A : Type 0} (gives : Result Reply EngineError → Result A EngineError → Type 0) (tries : List Entry → Attempt) (s : Seated) → Calls gives tries s s (Err (error.NoMemory None))
+calls-nothing gives tries s = record {
+  before = s.seen;
+  finds = record { begins = ([], sym (append-nil s.seen)); own_entries = refl; gathered = λ client has. refl };
+  same = record { engine = refl; number = refl; gathered = refl };
+  cursor = refl;
+  comes = inl (refl, refl);
+}
 
 -- a call whose reply is answered in another way
 pub calls-given : {A : Type 0} (gives : Result Reply EngineError → Result A EngineError → Type 0) (what : Act) (s t : Seated) (answer : Result Reply EngineError) (result : Result A EngineError) →
