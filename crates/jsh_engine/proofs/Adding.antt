@@ -1,5 +1,5 @@
 -- What a call adds to a history: nothing, or an entry of its client.
-use Rattle.std.proofs.Common.{◌≡◌, ◌⊎◌, inl, inr, ℕ, ◌+◌, ◌<◌, ◌==◌, Bool, true, false, List, [], ◌∷◌, ◌++◌, Option, None, Some, Result, length, eqb, cond, refl, ap, sym, ◌∙◌, subst, arith}
+use Rattle.std.proofs.Common.{◌≡◌, ◌⊎◌, inl, inr, ℕ, ◌+◌, ◌<◌, ◌==◌, Bool, true, false, List, [], ◌∷◌, ◌++◌, Option, None, Some, Result, length, refl, ap, sym, ◌∙◌, subst}
 use Rattle.std.specs.Prelude.{◌||◌}
 use Rattle.std.specs.List.{list_any}
 use Rattle.std.proofs.lemmas.List.{append-nil}
@@ -23,9 +23,9 @@ use Rattle.jsh_engine.specs.declared.driven.Pumped.{Pumped}
 use Rattle.jsh_engine.specs.declared.driven.Pumped.TheVariants as pumped
 use Rattle.jsh_engine.specs.declared.moves.Move.{Move}
 use Rattle.jsh_engine.specs.declared.moves.Move.TheVariants.{Answers, Turns}
-use Rattle.jsh_engine.specs.Seats.{has_left, is_leave, own, Finds, IsSameSeat, Seated}
+use Rattle.jsh_engine.specs.Seats.{has_left, is_leave, own}
 use Rattle.jsh_engine.specs.Attempts.{attempt, attempt_unless, barred, is_enter, ComesTo}
-use Rattle.jsh_engine.specs.Driving.{drive_move, last_turn, main_of, pump_move, turned_thread, DriveComes, IsTurn, MoveComes, PumpComes}
+use Rattle.jsh_engine.specs.Driving.{drive_move, last_turn, main_of, pump_move, turned_thread, DriveComes, MoveComes, PumpComes}
 use Rattle.jsh_engine.specs.Shared.{pairs, AreNumbered}
 use Rattle.jsh_engine.proofs.Clients.{numbered-push, own-mine, own-push, step-clients}
 use Rattle.jsh_engine.proofs.Histories.{added-none, added-one}

@@ -1,5 +1,5 @@
 -- Which clients are there, and how many were numbered.
-use Rattle.std.proofs.Common.{◌≡◌, ◌⊎◌, inl, inr, ℕ, zero, suc, ◌+◌, ◌<◌, ◌≤◌, ◌==◌, Bool, true, false, List, [], ◌∷◌, ◌++◌, Some, length, length-set, length-append, eqb, cond, refl, ap, sym, ◌∙◌, subst, arith, ne_eqb, eq-eqb}
+use Rattle.std.proofs.Common.{◌≡◌, ◌⊎◌, ℕ, ◌+◌, ◌<◌, ◌≤◌, ◌==◌, Bool, true, false, List, [], ◌∷◌, ◌++◌, Some, length, length-set, length-append, cond, refl, ap, sym, ◌∙◌, subst, arith, ne_eqb, eq-eqb}
 use Rattle.std.specs.Prelude.{◌||◌}
 use Rattle.std.specs.List.{list_any, slice_get}
 use Rattle.std.proofs.Math.Dec.{ltb}
@@ -8,7 +8,6 @@ use Rattle.std.proofs.lemmas.List.Elements.{filter-append}
 use Rattle.jsh_snippet.specs.declared.acts.Act.{Act}
 use Rattle.jsh_snippet.specs.declared.acts.Act.TheVariants as act
 use Rattle.jsh_snippet.specs.declared.acts.Entry.{Entry}
-use Rattle.jsh_snippet.specs.declared.replies.Refusal.{Refusal}
 use Rattle.jsh_snippet.specs.declared.replies.Refusal.TheVariants as refusal
 use Rattle.jsh_snippet.specs.declared.replies.LimitKind.TheVariants as limit
 use Rattle.jsh_snippet.specs.declared.replies.ReplyBody.TheVariants as body
@@ -19,7 +18,7 @@ use Rattle.jsh_core.specs.History.{state_after, state_of}
 use Rattle.jsh_core.proofs.DeliveryLaws.{IsDelivered, by, delivers}
 use Rattle.jsh_core.proofs.Frames.{KeptByDrop, KeptByRunAct, KeptBySubmit, collect-keeps, drop-keeps, expire-keeps, stop-keeps, submit-keeps}
 use Rattle.jsh_core.proofs.Growing.{Grows, step-grows}
-use Rattle.jsh_core.proofs.Steps.{leaves, state_of-push, step-kept, step-present}
+use Rattle.jsh_core.proofs.Steps.{leaves, state_of-push, step-present}
 use Rattle.jsh_core.proofs.Views.{Enters, view-enter}
 use Rattle.jsh_core.proofs.Views.{enters, full}
 use Rattle.jsh_engine.specs.Seats.{has_left, is_leave, own}

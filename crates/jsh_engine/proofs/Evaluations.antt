@@ -1,5 +1,5 @@
 -- How an evaluation goes on, call by call.
-use Rattle.std.proofs.Common.{◌≡◌, ◌⊎◌, inl, inr, ℕ, ◌+◌, ◌-◌, ◌<◌, ◌≤◌, ◌==◌, min, Bool, true, false, not, List, [], ◌++◌, Option, None, Some, Result, Ok, Err, length, cond, refl, ap, sym, ◌∙◌, subst, arith}
+use Rattle.std.proofs.Common.{◌≡◌, ◌⊎◌, inl, inr, ℕ, ◌+◌, ◌-◌, ◌<◌, ◌≤◌, ◌==◌, Bool, true, false, not, List, [], ◌++◌, Option, None, Some, Result, Ok, Err, length, cond, refl, ap, sym, ◌∙◌, subst}
 use Rattle.jsh_snippet.specs.declared.acts.Act.{Act}
 use Rattle.jsh_snippet.specs.declared.acts.Act.TheVariants as act
 use Rattle.jsh_snippet.specs.declared.acts.Entry.{Entry}
@@ -8,14 +8,12 @@ use Rattle.jsh_snippet.specs.declared.replies.ReplyBody.{ReplyBody}
 use Rattle.jsh_snippet.specs.declared.replies.ReplyBody.TheVariants as body
 use Rattle.jsh_snippet.specs.declared.replies.Collected.{Collected}
 use Rattle.jsh_snippet.specs.declared.replies.Collected.TheVariants as «collected»
-use Rattle.jsh_snippet.specs.declared.replies.Outcome.{Outcome}
 use Rattle.jsh_snippet.specs.declared.replies.Refusal.TheVariants as refusal
 use Rattle.jsh_sched.specs.Pick.{picked}
 use Rattle.jsh_core.specs.declared.world.RunView.{RunView}
 use Rattle.jsh_core.specs.State.{State, Acted}
 use Rattle.jsh_core.specs.Runs.{expire, run_view}
 use Rattle.jsh_core.specs.Threads.{turned}
-use Rattle.jsh_core.specs.Step.{act_step, step}
 use Rattle.jsh_core.specs.History.{state_of}
 use Rattle.jsh_core.proofs.DeliveryLaws.{by}
 use Rattle.jsh_core.proofs.TurnLemmas.{turned-at_most}
@@ -30,12 +28,12 @@ use Rattle.jsh_engine.specs.declared.evaluation.Advance.TheVariants as advance
 use Rattle.jsh_engine.specs.declared.moves.Move.{Move}
 use Rattle.jsh_engine.specs.declared.moves.Move.TheVariants.{Answers, Turns}
 use Rattle.jsh_engine.specs.Seats.{own, Seated}
-use Rattle.jsh_engine.specs.Attempts.{attempt, barred_by_close, barred_by_length, Attempt, Calls, ComesTo, Parted, Whole}
+use Rattle.jsh_engine.specs.Attempts.{attempt, barred_by_close, barred_by_length, Attempt, Calls, ComesTo, Parted}
 use Rattle.jsh_engine.specs.Driving.{drive_found, drive_move, drive_own, last_turn, main_of, move_with, turn_of, unless_closed, Drives, IsTurn, MoveComes}
 use Rattle.jsh_engine.specs.Evaluating as evaluating
-use Rattle.jsh_engine.specs.Evaluating.{naming, turn_steps, Collects, GoesOn, IsAtRest}
+use Rattle.jsh_engine.specs.Evaluating.{turn_steps, GoesOn, IsAtRest}
 use Rattle.jsh_engine.specs.Evaluating.GoesOn as goes_on
-use Rattle.jsh_engine.specs.Advancing.{Asks, AsksWith, LeadsTo}
+use Rattle.jsh_engine.specs.Advancing.{Asks, LeadsTo}
 use Rattle.jsh_engine.proofs.Replies.{comes-replied, step-body, Replied}
 use Rattle.jsh_engine.proofs.Silence.{no-output}
 

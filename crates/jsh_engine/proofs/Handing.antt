@@ -1,5 +1,5 @@
 -- How an entry is handed in: what it is answered, and what is left where memory is short.
-use Rattle.std.proofs.Common.{◌≡◌, ◌⊎◌, inl, inr, ℕ, ◌<◌, true, false, List, [], ◌∷◌, ◌++◌, Option, None, Some, Result, Ok, Err, IsOk, length, refl, ap, sym, ◌∙◌, subst}
+use Rattle.std.proofs.Common.{◌≡◌, ◌⊎◌, inl, inr, ℕ, ◌<◌, true, false, List, ◌∷◌, ◌++◌, Option, None, Some, Result, Err, IsOk, refl, ap, sym, ◌∙◌, subst}
 use Rattle.std.proofs.lemmas.List.{append-nil}
 use Rattle.jsh_snippet.specs.declared.acts.Act.{Act}
 use Rattle.jsh_snippet.specs.declared.acts.Act.TheVariants as act
@@ -9,8 +9,7 @@ use Rattle.jsh_snippet.specs.declared.replies.ReplyBody.{ReplyBody}
 use Rattle.jsh_snippet.specs.declared.replies.ReplyBody.TheVariants as body
 use Rattle.jsh_text.specs.declared.memory.NoMemory.{NoMemory}
 use Rattle.jsh_core.specs.Acts.{is_last}
-use Rattle.jsh_core.specs.Step.{kept, step}
-use Rattle.jsh_core.specs.History.{closed_at, state_of}
+use Rattle.jsh_core.specs.History.{closed_at}
 use Rattle.jsh_core.specs.Stands.{IsCutShort}
 use Rattle.jsh_engine.specs.declared.errors.EngineError.{EngineError}
 use Rattle.jsh_engine.specs.declared.errors.EngineError.TheVariants as error

@@ -1,6 +1,5 @@
 -- The lock's history and the engine's say the same.
 use Rattle.std.proofs.Common.{◌≡◌, ℕ, suc, ◌==◌, Bool, true, false, List, [], ◌∷◌, ◌++◌, length, leb, cond, refl, ap, sym, ◌∙◌, subst}
-use Rattle.std.specs.List.{All, Contains}
 use Rattle.std.proofs.lemmas.List.{append-nil}
 use Rattle.std.proofs.lemmas.List.Elements.{All-cons, All-nil}
 use Rattle.jsh_snippet.specs.declared.acts.Act.{Act}

@@ -6,13 +6,10 @@ use Rattle.jsh_sched.specs.Pick.{picked}
 use Rattle.jsh_core.specs.declared.world.RunView.{RunView}
 use Rattle.jsh_core.specs.History.{state_of}
 use Rattle.jsh_core.specs.Runs.{run_view}
-use Rattle.jsh_core.specs.Threads.{can_go_on}
 use Rattle.jsh_core.proofs.Picking.{picked-goes}
 use Rattle.jsh_engine.specs.declared.errors.EngineError.{EngineError}
 use Rattle.jsh_engine.specs.declared.errors.EngineError.TheVariants as error
-use Rattle.jsh_engine.specs.declared.driven.Driven.{Driven}
 use Rattle.jsh_engine.specs.declared.driven.Driven.TheVariants as driven
-use Rattle.jsh_engine.specs.declared.driven.Pumped.{Pumped}
 use Rattle.jsh_engine.specs.declared.driven.Pumped.TheVariants as pumped
 use Rattle.jsh_engine.specs.declared.moves.Move.{Move}
 use Rattle.jsh_engine.specs.declared.moves.Move.TheVariants.{Answers, Turns}

@@ -1,5 +1,5 @@
 -- What acts are replied to, and what calls answer of it.
-use Rattle.std.proofs.Common.{◌≡◌, ◌⊎◌, inl, inr, ℕ, Bool, true, false, List, [], ◌∷◌, ◌++◌, Option, None, Some, Result, Ok, Err, refl, ap, sym, ◌∙◌, subst}
+use Rattle.std.proofs.Common.{◌≡◌, ◌⊎◌, inl, inr, ℕ, List, [], ◌∷◌, ◌++◌, Option, None, Some, Result, Ok, Err, refl, ap, sym, ◌∙◌, subst}
 use Rattle.std.proofs.lemmas.List.{append-nil}
 use Rattle.jsh_snippet.specs.declared.acts.Act.{Act}
 use Rattle.jsh_snippet.specs.declared.acts.Act.TheVariants as act
@@ -21,7 +21,7 @@ use Rattle.jsh_core.proofs.Views.{absent, accepted, crowded, ended, foreign, ful
 use Rattle.jsh_engine.specs.declared.errors.EngineError.{EngineError}
 use Rattle.jsh_engine.specs.declared.errors.EngineError.TheVariants as error
 use Rattle.jsh_engine.specs.Seats.{Seated}
-use Rattle.jsh_engine.specs.Attempts.{answer_by, answered, attempt, attempt_unless, barred, Attempt, Calls, ComesTo, Hands, Whole}
+use Rattle.jsh_engine.specs.Attempts.{answer_by, attempt, attempt_unless, barred, Attempt, Calls, ComesTo, Hands, Whole}
 
 -- a body that refuses, or is one of these
 abbrev IsOneOf : {A : Type 0} → (A → ReplyBody) → ReplyBody → Type 0

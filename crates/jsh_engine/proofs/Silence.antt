@@ -1,13 +1,13 @@
 -- Nothing prints yet: no output is pending, and no reply has any.
-use Rattle.std.proofs.Common.{◌≡◌, ℕ, zero, suc, Bool, true, false, List, [], ◌∷◌, ◌++◌, set, refl, ap, sym, ◌∙◌, subst, cond}
+use Rattle.std.proofs.Common.{◌≡◌, ℕ, zero, suc, Bool, true, false, List, [], ◌∷◌, ◌++◌, set, refl, ap, ◌∙◌, cond}
 use Rattle.std.specs.List.{slice_get}
 use Rattle.std.specs.Option.{unwrap_or}
 use Rattle.jsh_snippet.specs.declared.acts.Act.{Act}
 use Rattle.jsh_snippet.specs.declared.acts.Act.TheVariants as act
 use Rattle.jsh_snippet.specs.declared.acts.Entry.{Entry}
-use Rattle.jsh_core.specs.State.{State, Acted, Stepped, World, opening}
+use Rattle.jsh_core.specs.State.{State, Acted, World, opening}
 use Rattle.jsh_core.specs.Clients.{enter}
-use Rattle.jsh_core.specs.Step.{act_step, delivered, hands_over, step}
+use Rattle.jsh_core.specs.Step.{act_step, hands_over, step}
 use Rattle.jsh_core.specs.History.{state_after, state_of}
 use Rattle.jsh_core.proofs.DeliveryLaws.{handed, withheld}
 use Rattle.jsh_core.proofs.Frames.{KeptByDrop, KeptByRunAct, KeptBySubmit, KeptByTurn, collect-keeps, drop-keeps, expire-keeps, stop-keeps, submit-keeps, turn-keeps}

@@ -1,7 +1,6 @@
 -- A turn of a thread that can go on.
-use Rattle.std.proofs.Common.{◌≡◌, ◌⊎◌, inl, inr, ℕ, ◌+◌, ◌<◌, ◌≤◌, ◌==◌, Bool, true, false, List, [], ◌∷◌, ◌++◌, length, length-append, ltb, ne_eqb, cond, refl, ap, sym, ◌∙◌, subst, arith}
+use Rattle.std.proofs.Common.{◌≡◌, ◌⊎◌, inl, inr, ℕ, ◌+◌, ◌<◌, ◌≤◌, ◌==◌, Bool, true, false, List, [], ◌∷◌, ◌++◌, length, length-append, ltb, ne_eqb, cond, ap, sym, ◌∙◌, subst, arith}
 use Rattle.std.proofs.lemmas.Bool.{le-ltb, lt-ltb}
-use Rattle.jsh_snippet.specs.declared.acts.Act.{Act}
 use Rattle.jsh_snippet.specs.declared.acts.Act.TheVariants as act
 use Rattle.jsh_snippet.specs.declared.acts.Entry.{Entry}
 use Rattle.jsh_snippet.specs.declared.replies.Reply.{Reply}
@@ -9,9 +8,9 @@ use Rattle.jsh_snippet.specs.declared.replies.ReplyBody.{ReplyBody}
 use Rattle.jsh_snippet.specs.declared.replies.ReplyBody.TheVariants as body
 use Rattle.jsh_core.specs.State.{State}
 use Rattle.jsh_core.specs.Threads.{can_go_on}
-use Rattle.jsh_core.specs.Step.{kept, kept_act, done_steps, step}
+use Rattle.jsh_core.specs.Step.{kept, done_steps, step}
 use Rattle.jsh_core.specs.History.{state_of}
-use Rattle.jsh_core.specs.Stands.{HasTurned, IsCutShort}
+use Rattle.jsh_core.specs.Stands.{HasTurned}
 use Rattle.jsh_core.proofs.DeliveryLaws.{by}
 use Rattle.jsh_core.proofs.TurnLaws.{GoesSome, turn-some}
 use Rattle.jsh_engine.specs.Seats.{own}

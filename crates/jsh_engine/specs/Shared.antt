@@ -1,6 +1,5 @@
 -- How the lock's history and the engine's are one, and what a pass of the lock is as a seat.
 use Rattle.std.specs.Prelude.{◌≡◌, ◌≤◌, ℕ, List, [], ◌∷◌, Option, None, Some, Result, Ok, Err, length}
-use Rattle.atomic_table.specs.Seated.{TableId}
 use Rattle.jsh_snippet.specs.declared.acts.Act.{Act}
 use Rattle.jsh_snippet.specs.declared.acts.Entry.{Entry}
 use Rattle.jsh_core.specs.History.{state_of}

@@ -1,5 +1,5 @@
 -- Something bars the act, or it is handed in.
-use Rattle.std.proofs.Common.{◌≡◌, refl, sym, ap}
+use Rattle.std.proofs.Common.{◌≡◌, refl, sym}
 use Rattle.jsh_engine.proofs.Allowed.{allowed}
 use Rattle.jsh_engine.proofs.Handing.{bar-memory, barred-comes, free-comes}
 use Rattle.jsh_engine.proofs.attempts.attempt.Goals as goal

@@ -1,5 +1,5 @@
 -- An entry that was made, or for which memory was short.
-use Rattle.std.proofs.Common.{◌≡◌, ◌++◌, ◌∷◌, [], inl, inr, refl, ap, ◌∙◌, is_ok, Err}
+use Rattle.std.proofs.Common.{◌≡◌, ◌++◌, ◌∷◌, [], inl, inr, refl, ap, ◌∙◌, Err}
 use Rattle.jsh_snippet.specs.declared.replies.Reply.{Reply}
 use Rattle.jsh_core.specs.Step.{kept}
 use Rattle.jsh_engine.specs.Attempts.{answered}

@@ -1,5 +1,5 @@
 -- The client's place is behind the turn.
-use Rattle.std.proofs.Common.{◌≡◌, ◌∙◌, refl, sym, ap}
+use Rattle.std.proofs.Common.{◌≡◌, ◌∙◌, refl, sym}
 use Rattle.jsh_engine.proofs.Adding.{turn-last}
 use Rattle.jsh_engine.proofs.Allowed.{turn-allowed}
 use Rattle.jsh_engine.proofs.Turns.{cut-last}

@@ -1,5 +1,5 @@
 -- A seat behind a call has what its pass has.
-use Rattle.std.proofs.Common.{◌≡◌, ◌∙◌, sym, subst, Some}
+use Rattle.std.proofs.Common.{◌≡◌, ◌∙◌, sym, subst}
 use Rattle.jsh_engine.specs.Attempts.{Hands, Whole}
 use Rattle.jsh_engine.specs.Seats.{Seated}
 use Rattle.jsh_engine.specs.Shared.{seated}

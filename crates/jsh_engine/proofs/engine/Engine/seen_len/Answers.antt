@@ -1,5 +1,5 @@
 -- A seat that is told how long the history is.
-use Rattle.std.proofs.Common.{◌≡◌, ◌≤◌, ◌∙◌, ap, refl, sym, subst, length, arith}
+use Rattle.std.proofs.Common.{◌≡◌, ◌≤◌, ◌∙◌, refl, sym, subst, arith}
 use Rattle.jsh_turnlock.specs.Known.{seen_by}
 use Rattle.jsh_engine.specs.Meeting.{Learns, Measures}
 use Rattle.jsh_engine.specs.Seats.{Seated}
