@@ -78,7 +78,7 @@ not-entered before after client why (inr done) = from (barred before act.Enter) 
     from None whole longer = told longer whole (enter-comes (state_of before) client)
     from (Some bar) whole longer = ap (λ (h : List Entry). length (state_of h).clients) (longer ∙ append-nil before)
 
-abbrev reply_with : List ℕ → ReplyBody → Reply
+abbrev pub reply_with : List ℕ → ReplyBody → Reply
 reply_with output what = record { output = output; body = what }
 
 -- the reply's output, where the number is known

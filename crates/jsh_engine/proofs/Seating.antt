@@ -1,24 +1,30 @@
 -- A seat before and after a call.
-use Rattle.std.proofs.Common.{◌≡◌, ◌⊎◌, ℕ, false, List, ◌++◌, Option, None, Some, Result, IsSome, refl, ap, sym, ◌∙◌, subst}
+use Rattle.std.proofs.Common.{◌≡◌, ◌⊎◌, ℕ, false, List, ◌++◌, Option, None, Some, Result, IsSome, refl, ap, sym, ◌∙◌, subst, inl, inr, [], Ok, Err, length}
 use Rattle.std.specs.List.{list_any}
 use Rattle.atomic_table.specs.Seated.{TableId}
 use Rattle.jsh_snippet.specs.declared.acts.Act.{Act}
 use Rattle.jsh_snippet.specs.declared.acts.Act.TheVariants as act
 use Rattle.jsh_snippet.specs.declared.acts.Entry.{Entry}
 use Rattle.jsh_snippet.specs.declared.replies.Reply.{Reply}
+use Rattle.jsh_snippet.specs.declared.replies.ReplyBody.{ReplyBody}
+use Rattle.jsh_snippet.specs.declared.replies.ReplyBody.TheVariants as body
+use Rattle.jsh_core.specs.History.{state_of}
 use Rattle.jsh_turnlock.specs.declared.chronicle.Chronicle.{Ghosts}
 use Rattle.jsh_turnlock.specs.declared.handles.Pass.{Pass}
 use Rattle.jsh_turnlock.specs.History as lock
 use Rattle.jsh_turnlock.specs.Known.{gathered_by, lock_of, seen_by, IsSamePass, KeepsGathered}
 use Rattle.jsh_engine.specs.declared.errors.EngineError.{EngineError}
+use Rattle.jsh_engine.specs.declared.errors.EngineError.TheVariants as error
 use Rattle.jsh_engine.specs.declared.driven.Driven.{Driven}
 use Rattle.jsh_engine.specs.declared.driven.Pumped.{Pumped}
 use Rattle.jsh_engine.specs.Seats.{has_left, is_leave, own, Finds, IsAt, IsSameSeat, Seated}
-use Rattle.jsh_engine.specs.Attempts.{attempt, Attempt, Calls, ComesTo, IsAsked}
+use Rattle.jsh_engine.specs.Attempts.{attempt, Attempt, Calls, ComesTo, IsAsked, Output}
+use Rattle.jsh_engine.specs.Entering.{newcomer, Admits, Enters}
 use Rattle.jsh_engine.specs.Driving.{last_turn, DriveComes, Drives, PumpComes, Pumps}
 use Rattle.jsh_engine.specs.Meeting.{Learns}
 use Rattle.jsh_engine.specs.Shared.{entries, pairs, seated, seated_or, IsKept}
 use Rattle.jsh_engine.proofs.Adding.{is_turn, adds-last, adds-stays, comes-adds, drive-adds, pump-adds, Adds}
+use Rattle.jsh_engine.proofs.Entered.{reply_with}
 use Rattle.jsh_engine.proofs.Histories.{entries-found, entries-own, entries-pairs, pairs-found}
 
 module _ {T : Type 0} {g : Ghosts T Act} where
@@ -158,6 +164,35 @@ learns-last s t learns = let same : IsSameSeat s t = learns.same in finds-last s
 pub learns-stays : (engine : TableId) (s t : Seated) → Learns s t → IsAt engine s → IsAt engine t
 learns-stays engine s t learns here = let same : IsSameSeat s t = learns.same in finds-stays engine s t same.engine same.number learns.finds here
 
+abbrev seat_with : TableId → ℕ → List Entry → List ℕ → Seated
+seat_with engine number seen gathered = record { engine = engine; number = number; seen = seen; gathered = gathered; cursor = 0 }
+
+admits : (engine : TableId) (before : List Entry) (number : ℕ) (answer : Result Reply EngineError) (output : List ℕ) (seat : Seated) → Output (body.Entered number) answer (Ok output) →
+    seat.number ≡ number → seat ≡ newcomer engine seat.number before → own before seat.number ≡ [] → Admits engine before answer (Ok (output, seat))
+admits engine before number (Ok reply) output seat given same is none = record {
+  reply_is = given ∙ ap (λ (n : ℕ). reply_with output (body.Entered n)) (sym same);
+  seat_is = is;
+  none = none;
+}
+admits engine before number (Err why) output seat given same is none = absurd given
+
+made-admits : (engine : TableId) (before after : List Entry) (tried : Attempt) (number : ℕ) (output : List ℕ) (seat : Seated) →
+    ComesTo (Output (body.Entered number)) before tried (Ok output) after → seat.number ≡ number → seat ≡ newcomer engine seat.number before → own before seat.number ≡ [] →
+    ComesTo (Admits engine before) before tried (Ok (output, seat)) after
+made-admits engine before after tried number output seat (inl short) same is none = cc
+made-admits engine before after tried number output seat (inr done) same is none = inr (admits engine before number tried.answer output seat done.0 same is none, done.1)
+
+refused-as : (engine : TableId) (before : List Entry) (what : ReplyBody) (answer : Result Reply EngineError) (why : EngineError) → Output what answer (Err why) → Admits engine before answer (Err why)
+refused-as engine before what (Ok reply) why given = absurd given
+refused-as engine before what (Err told) why given = given
+
+refused-admits : (engine : TableId) (before after : List Entry) (tried : Attempt) (what : ReplyBody) (why : EngineError) →
+    ComesTo (Output what) before tried (Err why) after → ComesTo (Admits engine before) before tried (Err why) after
+refused-admits engine before after tried what why (inl short) =
+    let same : why ≡ error.NoMemory None = (let e : ◌≡◌ {A = Result (List ℕ) EngineError} (Err why) (Err (error.NoMemory None)) = short.0 in cc) in
+    inl (ap Err same, short.1)
+refused-admits engine before after tried what why (inr done) = inr (refused-as engine before what tried.answer why done.0, done.1)
+
 module _ {T : Type 0} {g : Ghosts T Act} where
   -- a pass that has learned more of the history
   pub learned : (pass after : Pass T Act g) (history : List (ℕ × Act)) → IsSamePass pass after → seen_by after ≡ history → lock.StartsWith history (seen_by pass) →
@@ -167,4 +202,39 @@ module _ {T : Type 0} {g : Ghosts T Act} where
     cursor = refl;
     finds = subst (λ (h : List (ℕ × Act)). Finds (seated pass cursor) (entries h)) (sym seen)
         (entries-found pass cursor history begins (ap (lock.own history) (sym same.1) ∙ mine) gathered);
+  }
+
+  -- the pass that was split off, as the seat of the new client
+  split-seat : (pass made : Pass T Act g) (before : List Entry) → lock_of made ≡ lock_of pass → seen_by made ≡ pairs before → gathered_by made ≡ [] →
+      seated made 0 ≡ newcomer (lock_of pass) made.number before
+  split-seat pass made before engine seen none =
+      ap (λ (e : TableId). seat_with e made.number (entries (seen_by made)) (gathered_by made)) engine
+      ∙ ap (λ (h : List Entry). seat_with (lock_of pass) made.number h (gathered_by made)) (ap entries seen ∙ entries-pairs before)
+      ∙ ap (λ (l : List ℕ). seat_with (lock_of pass) made.number before l) none
+
+  -- an Enter that was refused, or short of memory
+  pub enters-refused : (pass given : Pass T Act g) (before after : List Entry) (what : ReplyBody) (why : EngineError) → IsTaken pass given before after →
+      ComesTo (Output what) before (attempt before pass.number act.Enter) (Err why) after → (cursor : ℕ) → Enters (seated pass cursor) (seated given cursor) (Err why)
+  enters-refused pass given before after what why turn comes cursor = record {
+    before = before;
+    finds = turn.finds cursor;
+    same = turn.same cursor cursor;
+    cursor = refl;
+    comes = subst (λ (h : List Entry). ComesTo (Admits (lock_of pass) before) before (attempt before pass.number act.Enter) (Err why) h) (sym turn.seen)
+        (refused-admits (lock_of pass) before after (attempt before pass.number act.Enter) what why comes);
+  }
+
+  -- an Enter that has numbered a client
+  pub enters-made : (pass given made : Pass T Act g) (before after : List Entry) (output : List ℕ) → IsTaken pass given before after →
+      ComesTo (Output (body.Entered (length (state_of before).clients))) before (attempt before pass.number act.Enter) (Ok output) after →
+      lock_of made ≡ lock_of pass → made.number ≡ length (state_of before).clients → seen_by made ≡ pairs before → gathered_by made ≡ [] →
+      own before (length (state_of before).clients) ≡ [] → (cursor : ℕ) → Enters (seated pass cursor) (seated given cursor) (Ok (output, seated made 0))
+  enters-made pass given made before after output turn comes engine number seen ended none cursor = record {
+    before = before;
+    finds = turn.finds cursor;
+    same = turn.same cursor cursor;
+    cursor = refl;
+    comes = subst (λ (h : List Entry). ComesTo (Admits (lock_of pass) before) before (attempt before pass.number act.Enter) (Ok (output, seated made 0)) h) (sym turn.seen)
+        (made-admits (lock_of pass) before after (attempt before pass.number act.Enter) (length (state_of before).clients) output (seated made 0) comes number
+        (split-seat pass made before engine seen ended) (ap (own before) number ∙ none));
   }
