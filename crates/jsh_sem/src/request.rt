@@ -105,8 +105,5 @@ pub enum Next {
     /// The number of the throwable.
     Throws(u32),
     /// An operation met a value of another kind than it wants.
-    Wrong {
-        wanted: KindName,
-        found: KindName,
-    },
+    Wrong { wanted: KindName, found: KindName },
 }
