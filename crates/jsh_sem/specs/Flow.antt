@@ -35,7 +35,7 @@ abbrev pub throws : {A : Type 0} → ℕ → Eval A
 throws object state = Threw object state
 
 -- one part and then another: only a result goes on
-abbrev pub behind : {A B : Type 0} → Flow A → (A → Eval B) → Flow B
+unfoldable pub behind : {A B : Type 0} → Flow A → (A → Eval B) → Flow B
 behind (Done result state) further = further result state
 behind (Threw object state) further = Threw object state
 behind (Needs asked) further = Needs asked
@@ -46,7 +46,7 @@ abbrev pub ◌>>=◌ : {A B : Type 0} → Eval A → (A → Eval B) → Eval B
 ◌>>=◌ part further = λ state. behind (part state) further
 
 -- an operation that wants a kind of value
-abbrev pub kinded : {A : Type 0} → Result A WrongKind → Eval A
+unfoldable pub kinded : {A : Type 0} → Result A WrongKind → Eval A
 kinded (Ok result) state = Done result state
 kinded (Err wrong) state = Wrong wrong.wanted wrong.found
 
@@ -57,7 +57,7 @@ answered (answer.Value v) = gives v
 answered (answer.Thrown object) = throws object
 
 -- a request takes the next answer
-abbrev pub ask : Request → Eval Value
+unfoldable pub ask : Request → Eval Value
 ask asked state = by state.answers
   where
     by : List Answer → Flow Value
@@ -65,7 +65,7 @@ ask asked state = by state.answers
     by (next ∷ rest) = answered next (record state { answers = rest })
 
 -- a request to make a throwable of the library and throw it, which has no value for an answer
-abbrev pub raise : {A : Type 0} → List ℕ → Option (List ℕ) → Eval A
+unfoldable pub raise : {A : Type 0} → List ℕ → Option (List ℕ) → Eval A
 raise class message = do
   v ← ask (request.Raise class message)
   kinded (Err (record { wanted = kind.Ref; found = kind_of v }))

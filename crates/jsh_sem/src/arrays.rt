@@ -4,6 +4,7 @@ ghost use Rattle.std.specs.Prelude.{◌≡◌, IfOk};
 ghost use Rattle.jsh_sem.specs.Expressions as spec;
 ghost use Rattle.jsh_sem.specs.Meets.{Meets};
 
+use crate::copies::{copied_element, copied_type};
 use crate::frame::Frame;
 use crate::outcome::Stop;
 use crate::request::Request;
@@ -18,7 +19,7 @@ fn inner_type(of: &ResolvedType) -> Result<ResolvedType, NoMemory>
     match of {
         ResolvedType::Null => Ok(ResolvedType::Null),
         ResolvedType::Of { element, dims } => Ok(ResolvedType::Of {
-            element: element.clone()?,
+            element: copied_element(element)?,
             dims: dims.saturating_sub(1),
         }),
     }
@@ -28,7 +29,7 @@ pub fn new_array(frame: &mut Frame, of: &ResolvedType, length: i32) -> Result<Va
     ensures { Meets (spec.new_array of.now length frame.old) frame.new result }
 {
     let found = frame.ask(Request::NewArray {
-        of: of.clone()?,
+        of: copied_type(of)?,
         length,
     })?;
     Ok(object_of(found)?)

@@ -4,6 +4,7 @@ ghost use Rattle.std.specs.Prelude.{◌≡◌, [], map, Some, None, option_copie
 ghost use Rattle.jsh_sem.specs.Expressions as spec;
 ghost use Rattle.jsh_sem.specs.Meets.{Meets};
 
+use crate::copies::{copied_class, copied_link, copied_type, copied_types};
 use crate::arrays::{arrays_or_raise, new_array, set_element};
 use crate::frame::Frame;
 use crate::methods::{library, operated, text_of_any};
@@ -159,7 +160,7 @@ fn target_place(frame: &mut Frame, target: &Target) -> Result<Place, Stop>
 {
     match target {
         Target::Local { slot, .. } => Ok(Place::Local(*slot)),
-        Target::Variable { link, .. } => Ok(Place::Variable(link.clone()?)),
+        Target::Variable { link, .. } => Ok(Place::Variable(copied_link(link)?)),
         Target::Field {
             object,
             class,
@@ -169,7 +170,7 @@ fn target_place(frame: &mut Frame, target: &Target) -> Result<Place, Stop>
             let object = evaluated(frame, object.get())?;
             Ok(Place::Field {
                 object,
-                class: class.clone()?,
+                class: copied_link(class)?,
                 name: name.clone()?,
             })
         }
@@ -188,7 +189,7 @@ fn call(frame: &mut Frame, link: &Link, arguments: &[Expression]) -> Result<Valu
 {
     let values = all_of(frame, arguments)?;
     frame.ask(Request::Call {
-        link: link.clone()?,
+        link: copied_link(link)?,
         arguments: values,
     })
 }
@@ -226,9 +227,9 @@ fn direct_on(
         None => None,
     };
     frame.ask(Request::Direct {
-        class: class.clone()?,
+        class: copied_class(class)?,
         name,
-        params: params.clone()?,
+        params: copied_types(params)?,
         object,
         arguments: values,
     })
@@ -274,7 +275,7 @@ fn new_object(
 ) -> Result<Value, Stop>
     ensures { Meets (spec.new_object class.now params.now (map spec.evaluated arguments.now) frame.old) frame.new result }
 {
-    let found = frame.ask(Request::NewObject(class.clone()?))?;
+    let found = frame.ask(Request::NewObject(copied_class(class)?))?;
     let object = object_of(found)?;
     let values = all_of(frame, arguments)?;
     direct_on(frame, class, None, params, object.copy()?, values)?;
@@ -350,7 +351,7 @@ fn cast(frame: &mut Frame, of: &ResolvedType, value: Value) -> Result<Value, Sto
     let reference = reference_of(value.copy()?)?;
     frame.ask(Request::CastTo {
         value: reference,
-        of: of.clone()?,
+        of: copied_type(of)?,
     })?;
     Ok(value)
 }
@@ -362,7 +363,7 @@ fn instance(frame: &mut Frame, of: &ResolvedType, value: Value) -> Result<Value,
     let reference = reference_of(value)?;
     frame.ask(Request::Instance {
         value: reference,
-        of: of.clone()?,
+        of: copied_type(of)?,
     })
 }
 
@@ -408,7 +409,7 @@ fn virtual_call(
     frame.ask(Request::Virtual {
         object,
         name: method.name.clone()?,
-        params: method.params.clone()?,
+        params: copied_types(&method.params)?,
         arguments: values,
     })
 }

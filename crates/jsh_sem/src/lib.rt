@@ -2,6 +2,7 @@
 #![tactic(auto)]
 
 mod arrays;
+mod copies;
 mod expressions;
 mod frame;
 mod methods;

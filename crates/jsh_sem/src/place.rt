@@ -4,6 +4,7 @@ ghost use Rattle.std.specs.Prelude.{◌≡◌};
 ghost use Rattle.jsh_sem.specs.Expressions as spec;
 ghost use Rattle.jsh_sem.specs.Meets.{Meets};
 
+use crate::copies::copied_link;
 use crate::frame::Frame;
 use crate::outcome::{Place, Stop};
 use crate::request::Request;
@@ -14,7 +15,7 @@ use jsh_tree::{Link, Name};
 pub fn get_var(frame: &mut Frame, link: &Link) -> Result<Value, Stop>
     ensures { Meets (spec.load (Place.Variable link.now) frame.old) frame.new result }
 {
-    frame.ask(Request::GetVar(link.clone()?))
+    frame.ask(Request::GetVar(copied_link(link)?))
 }
 
 pub fn field(frame: &mut Frame, found: Value, class: &Link, name: &Name) -> Result<Value, Stop>
@@ -23,7 +24,7 @@ pub fn field(frame: &mut Frame, found: Value, class: &Link, name: &Name) -> Resu
     let object = object_of(found)?;
     frame.ask(Request::GetField {
         object,
-        class: class.clone()?,
+        class: copied_link(class)?,
         name: name.clone()?,
     })
 }

@@ -5,6 +5,7 @@ ghost use Rattle.jsh_sem.specs.Expressions as expression;
 ghost use Rattle.jsh_sem.specs.Meets.{Meets};
 ghost use Rattle.jsh_sem.specs.Statements as spec;
 
+use crate::copies::{copied_class};
 use crate::expressions::{after, evaluated, truth};
 use crate::frame::Frame;
 use crate::methods::null_pointer;
@@ -369,7 +370,7 @@ fn takes(frame: &mut Frame, class: &ClassName, object: u32) -> Result<bool, Stop
     let answer = frame.ask(Request::Instance {
         value: Value::Ref(object),
         of: ResolvedType::Of {
-            element: Element::Class(class.clone()?),
+            element: Element::Class(copied_class(class)?),
             dims: 0,
         },
     })?;

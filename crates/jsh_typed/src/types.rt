@@ -3,7 +3,6 @@ ghost use Rattle.jsh_typed.specs.Types as spec;
 
 use jsh_text::KindName;
 use jsh_tree::{Link, Name};
-use std::alloc::AllocError;
 
 /// A class or an interface, by what declares it.
 #[derive(Drop)]
@@ -47,46 +46,6 @@ pub enum Numeric {
 pub enum Promoted {
     Int,
     Long,
-}
-
-impl Clone for ClassName {
-    ghost is_clone = { λ from copy. copy ≡ from };
-
-    fn clone(&self) -> Result<ClassName, AllocError> {
-        match self {
-            ClassName::Library(name) => Ok(ClassName::Library(name.clone()?)),
-            ClassName::Snippet(link) => Ok(ClassName::Snippet(link.clone()?)),
-        }
-    }
-}
-
-impl Clone for Element {
-    ghost is_clone = { λ from copy. copy ≡ from };
-
-    fn clone(&self) -> Result<Element, AllocError> {
-        match self {
-            Element::Int => Ok(Element::Int),
-            Element::Long => Ok(Element::Long),
-            Element::Char => Ok(Element::Char),
-            Element::Boolean => Ok(Element::Boolean),
-            Element::Text => Ok(Element::Text),
-            Element::Class(class) => Ok(Element::Class(class.clone()?)),
-        }
-    }
-}
-
-impl Clone for ResolvedType {
-    ghost is_clone = { λ from copy. copy ≡ from };
-
-    fn clone(&self) -> Result<ResolvedType, AllocError> {
-        match self {
-            ResolvedType::Null => Ok(ResolvedType::Null),
-            ResolvedType::Of { element, dims } => Ok(ResolvedType::Of {
-                element: element.clone()?,
-                dims: *dims,
-            }),
-        }
-    }
 }
 
 impl ClassName {
