@@ -1,4 +1,3 @@
-use Rattle.std.proofs.Common.{rules}
 use denote.Param.Send.{sendable}
 use Rattle.jsh_probe.proofs.Crossing.{tree_send, tree_sync}
 use Rattle.jsh_probe.proofs.probe_tree.Goals as goal
