@@ -3,3 +3,4 @@ pub mod Adding
 pub mod Searching
 pub mod Reversing
 pub mod Ranges
+pub mod Listing

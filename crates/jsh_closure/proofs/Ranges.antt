@@ -50,7 +50,7 @@ among_step p n i before =
         lt_step (inl below) = lt-ltb i n below ∙ sym (lt-ltb i (n + 1) (omega arith))
         lt_step (inr past) = le-ltb i n past ∙ sym (le-ltb i (n + 1) (omega arith))
 
-among_filter : (p : ℕ → Bool) (n i : ℕ) → is_among (filter p (range_with_len 0 n)) i ≡ (nat_lt i n && p i)
+pub among_filter : (p : ℕ → Bool) (n i : ℕ) → is_among (filter p (range_with_len 0 n)) i ≡ (nat_lt i n && p i)
 among_filter p zero i = ap (λ (x : Bool). x && p i) (sym (le-ltb i 0 (omega arith)))
 among_filter p (suc n) i = subst (λ (m : ℕ). is_among (filter p (range_with_len 0 m)) i ≡ (nat_lt i m && p i)) (add-one n) (among_step p n i (among_filter p n i))
 

@@ -15,6 +15,13 @@ blank zero i = refl
 blank (suc n) zero = refl
 blank (suc n) (suc i) = blank n i
 
+-- two tests that pass together
+pub same_bool : (a b : Bool) → (a ≡ true → b ≡ true) → (b ≡ true → a ≡ true) → a ≡ b
+same_bool true true p q = refl
+same_bool true false p q = absurd (cc (p refl))
+same_bool false true p q = absurd (cc (q refl))
+same_bool false false p q = refl
+
 module _ (first : List ℕ) (edges : List (List ℕ)) where
   abbrev set_of : ℕ → Bool
   set_of = closure (length edges) (is_among first) (has_edge edges)
@@ -42,7 +49,7 @@ module _ (first : List ℕ) (edges : List (List ℕ)) where
       is_first : (i : ℕ) → get_or m i false ≡ true → is_among first i ≡ true
       is_first i held = first_of i (or_cases (get_or m0 i false) (nat_lt i (length m0) && is_among first i) (sym (adds.marked i) ∙ held))
 
-  marked_below : (m : List Bool) (i : ℕ) → get_or m i false ≡ true → i < length m
+  pub marked_below : (m : List Bool) (i : ℕ) → get_or m i false ≡ true → i < length m
   marked_below m i held = at (cases_Bool (nat_lt i (length m)))
     where
       at : (nat_lt i (length m) ≡ true) ⊎ (nat_lt i (length m) ≡ false) → i < length m
@@ -104,12 +111,6 @@ module _ (first : List ℕ) (edges : List (List ℕ)) where
       follows from to below apart next (inl held) _ = old from to below apart next held (cases_eq from place)
       follows from to below apart next (inr new) held = absurd (both_ways _ apart (adds.added from held new))
 
-  same_bool : (a b : Bool) → (a ≡ true → b ≡ true) → (b ≡ true → a ≡ true) → a ≡ b
-  same_bool true true p q = refl
-  same_bool true false p q = absurd (cc (p refl))
-  same_bool false true p q = absurd (cc (q refl))
-  same_bool false false p q = refl
-
   pub end : (m : List Bool) → IsSearch first edges m [] → m ≡ marks first edges
   end m search = ext_get_or false m (marks first edges) (search.size ∙ sym (length-map-range_with_len set_of 0 (length edges)))
       (λ i below. at i (omega (arith, search.size)) ∙ sym (get_or-map-range_with_len set_of 0 (length edges) i i false (omega (arith, search.size)) (omega arith)))
@@ -123,7 +124,7 @@ module _ (first : List ℕ) (edges : List (List ℕ)) where
       at : (i : ℕ) → i < length edges → get_or m i false ≡ closure (length edges) (is_among first) (has_edge edges) i
       at i below = same_bool (get_or m i false) (closure (length edges) (is_among first) (has_edge edges) i) (search.sound i below) (law.contained (λ k. get_or m k false) closed i below)
 
-  read : (place : ℕ) → place < length edges → get_or (marks first edges) place false ≡ closure (length edges) (is_among first) (has_edge edges) place
+  pub read : (place : ℕ) → place < length edges → get_or (marks first edges) place false ≡ closure (length edges) (is_among first) (has_edge edges) place
   read place below = get_or-map-range_with_len set_of 0 (length edges) place place false below (omega arith)
 
   pub is_smallest : IsSmallest (length edges) (is_among first) (has_edge edges) (λ place. get_or (marks first edges) place false)

@@ -1,3 +1,4 @@
 pub mod Closure
 pub mod Searches
 pub mod Reversals
+pub mod Finding

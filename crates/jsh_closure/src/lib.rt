@@ -7,6 +7,10 @@ ghost use Rattle.jsh_closure.specs.Closure.{IsSmallest};
 ghost use Rattle.jsh_closure.specs.Searches.{Adds};
 ghost use Rattle.jsh_closure.specs.Reversals.{Appends, IsReversed};
 
+mod finder;
+
+pub use finder::Finder;
+
 use jsh_tree::Seq;
 use std::alloc::{AllocError, Global};
 use std::mem::replace;
@@ -97,7 +101,7 @@ fn append(
     Ok(())
 }
 
-fn next_of(edges: &[Seq<usize>], place: usize) -> &[usize]
+pub(crate) fn next_of(edges: &[Seq<usize>], place: usize) -> &[usize]
     ensures { result.now ≡ spec.places_at (slice_get edges.now place) }
 {
     match edges.get(place) {
@@ -107,7 +111,11 @@ fn next_of(edges: &[Seq<usize>], place: usize) -> &[usize]
 }
 
 /// Marks the places that aren't marked, and puts them on the list of those whose edges are to be followed.
-fn add(places: &[usize], marks: &mut Vec<bool>, waiting: &mut Vec<usize>) -> Result<(), AllocError>
+pub(crate) fn add(
+    places: &[usize],
+    marks: &mut Vec<bool>,
+    waiting: &mut Vec<usize>,
+) -> Result<(), AllocError>
     ensures { OnOk result (Adds places.now marks.old.items waiting.old.items marks.new.items waiting.new.items) }
 {
     for place in places {

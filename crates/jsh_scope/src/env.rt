@@ -5,7 +5,8 @@ ghost use Rattle.std.specs.Option.{option_copied, option_to_list};
 ghost use Rattle.std.specs.List.{find, flat_map, filter};
 ghost use Rattle.jsh_closure.specs.Closure.{places_at};
 ghost use Rattle.jsh_scope.specs.Scope.{is_type, is_visible_variable, is_visible_method};
-ghost use Rattle.jsh_scope.specs.Reached.{reached, visible_types};
+ghost use Rattle.jsh_scope.specs.Reached.{reached, visible_types, first_place};
+ghost use Rattle.jsh_scope.specs.Imports as imports;
 ghost use Rattle.jsh_scope.specs.Answers as spec;
 
 use crate::answers::{Linked, MethodAnswer, TypeAnswer, VarAnswer, Visible};
@@ -81,6 +82,20 @@ impl Env {
             Some(answer) => Some(answer),
             None => imported_type(&self.library, name, self.imports.as_slice()),
         }
+    }
+
+    /// The place among the members of the live type of this name. It takes no memory.
+    pub fn type_place(&self, name: &Name) -> Option<usize>
+        ensures { result ≡ first_place (is_type name.now) self.now.members }
+    {
+        self.types.get(name).copied()
+    }
+
+    /// Which type the imports and `java.lang` give to the name. It takes no memory.
+    pub fn imported_type(&self, name: &Name) -> Option<TypeAnswer<'_>>
+        ensures { result ≡ imports.imported_type self.now.library name.now (imports.imports_of self.now.members) }
+    {
+        imported_type(&self.library, name, self.imports.as_slice())
     }
 
     /// Which variable outside of methods the name is. It takes no memory.

@@ -114,7 +114,8 @@ fn append_method(
     }
 }
 
-fn append_place(
+/// Puts the place behind those that the name has.
+pub fn append_place(
     places: &mut BTreeMap<Name, Seq<usize>>,
     alloc: Global,
     name: &Name,

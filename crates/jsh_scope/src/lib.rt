@@ -18,7 +18,7 @@ pub use answers::{
 };
 pub use asked::{Asked, AttrError, Footprint};
 pub use env::Env;
-pub use indexes::mentioned_types;
+pub use indexes::{append_place, mentioned_types};
 pub use laws::{answers_stay, readers_agree};
 
 #[cfg(test)]

@@ -1,0 +1,4 @@
+pub mod Closing
+pub mod Alike
+pub mod Positions
+pub mod Naming
