@@ -10,7 +10,6 @@ ghost use Rattle.jsh_closure.specs.Reversals.{Appends, IsReversed};
 mod finder;
 
 pub use finder::Finder;
-
 use jsh_tree::Seq;
 use std::alloc::{AllocError, Global};
 use std::mem::replace;
