@@ -19,7 +19,7 @@ returns-in_default-clause-value c = λ room.
     turn_raises c.args.input.now.text.now room c.args.input.now.tokens.now c.args.waiting.now.items c.args.run c.in_ok-raised.field-0 c.args.at
     c.if-run.false (sym c.in_default.ensures.value) c.in_ok-raised.ensures
 
-pub returns-in_err-further-clause-value : goal.returns-in_err-longer-clause-value
+pub returns-in_err-further-clause-value : goal.returns-in_err-further-clause-value
 returns-in_err-further-clause-value c = λ room.
     let text = c.args.input.now.text.now in
     let tokens = c.args.input.now.tokens.now in
