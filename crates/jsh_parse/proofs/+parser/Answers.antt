@@ -135,16 +135,16 @@ pub expression::level-returns-in_err-operand : goal.expression::level-returns-in
 expression::level-returns-in_err-operand t c = hands_on c.args.input.now.tokens.now c.operands.place c.args.at (level_at c.args.input.now.text.now c.args.room c.args.height (drop c.args.at c.args.input.now.tokens.now)) (unary_at c.args.input.now.text.now c.args.room (drop c.operands.place c.args.input.now.tokens.now)) c.in_err-operand.field-0.0 c.from_residual.result c.from_residual.ensures.1 (λ n. no_operand c.args.input.now.text.now c.args.room c.args.input.now.tokens.now (level_at c.args.input.now.text.now c.args.room c.args.height (drop c.args.at c.args.input.now.tokens.now)) c.operands.waiting.items c.operands.wanted c.operands.place c.operands.invariant.reads n) c.in_err-operand.ensures
 
 pub expression::level-returns-in_err-next : goal.expression::level-returns-in_err-next
-expression::level-returns-in_err-next t c = ends c.args.input.now.tokens.now c.args.at (after c.args.input.now.text.now c.args.room c.args.input.now.tokens.now c.settle-next.new.waiting.items) (level_at c.args.input.now.text.now c.args.room c.args.height (drop c.args.at c.args.input.now.tokens.now)) (resumed c.args.input.now.text.now c.args.room c.operands.waiting.items (risen c.args.input.now.text.now c.args.room (begun c.in_ok-operand.operand c.operands.wanted) (drop c.in_ok-operand.behind c.args.input.now.tokens.now))) c.in_err-next.field-0.0 c.from_residual-in_err-next.result c.from_residual-in_err-next.ensures.1 (reads_operand c.args.input.now.text.now c.args.room c.args.input.now.tokens.now (level_at c.args.input.now.text.now c.args.room c.args.height (drop c.args.at c.args.input.now.tokens.now)) c.operands.waiting.items c.in_ok-operand.operand c.operands.wanted c.operands.place c.in_ok-operand.behind c.operands.invariant.reads c.in_ok-operand.ensures.1) (c.in_err-next.ensures.value c.args.room)
+expression::level-returns-in_err-next t c = ends c.args.input.now.tokens.now c.args.at (after c.args.input.now.text.now c.args.room c.args.input.now.tokens.now c.settle.new.waiting.items) (level_at c.args.input.now.text.now c.args.room c.args.height (drop c.args.at c.args.input.now.tokens.now)) (resumed c.args.input.now.text.now c.args.room c.operands.waiting.items (risen c.args.input.now.text.now c.args.room (begun c.in_ok-operand.operand c.operands.wanted) (drop c.in_ok-operand.behind c.args.input.now.tokens.now))) c.in_err-next.field-0.0 c.from_residual-in_err-next.result c.from_residual-in_err-next.ensures.1 (reads_operand c.args.input.now.text.now c.args.room c.args.input.now.tokens.now (level_at c.args.input.now.text.now c.args.room c.args.height (drop c.args.at c.args.input.now.tokens.now)) c.operands.waiting.items c.in_ok-operand.operand c.operands.wanted c.operands.place c.in_ok-operand.behind c.operands.invariant.reads c.in_ok-operand.ensures.1) (c.in_err-next.ensures.value c.args.room)
 
 pub expression::level-returns-in-Whole : goal.expression::level-returns-in-Whole
-expression::level-returns-in-Whole t c = let on = subst (GoesOn (length c.args.input.now.tokens.now) c.in_ok-operand.behind) c.in-Whole.is c.in_ok-next.ensures.forward in (omega (arith, c.operands.invariant.forward, c.in_ok-operand.ensures.0, on), reads_operand c.args.input.now.text.now c.args.room c.args.input.now.tokens.now (level_at c.args.input.now.text.now c.args.room c.args.height (drop c.args.at c.args.input.now.tokens.now)) c.operands.waiting.items c.in_ok-operand.operand c.operands.wanted c.operands.place c.in_ok-operand.behind c.operands.invariant.reads c.in_ok-operand.ensures.1 ∙ c.in_ok-next.ensures.value c.args.room ∙ ap (after c.args.input.now.text.now c.args.room c.args.input.now.tokens.now c.settle-next.new.waiting.items) c.in-Whole.is)
+expression::level-returns-in-Whole t c = let on = subst (GoesOn (length c.args.input.now.tokens.now) c.in_ok-operand.behind) c.in-Whole.is c.in_ok-next.ensures.forward in (omega (arith, c.operands.invariant.forward, c.in_ok-operand.ensures.0, on), reads_operand c.args.input.now.text.now c.args.room c.args.input.now.tokens.now (level_at c.args.input.now.text.now c.args.room c.args.height (drop c.args.at c.args.input.now.tokens.now)) c.operands.waiting.items c.in_ok-operand.operand c.operands.wanted c.operands.place c.in_ok-operand.behind c.operands.invariant.reads c.in_ok-operand.ensures.1 ∙ c.in_ok-next.ensures.value c.args.room ∙ ap (after c.args.input.now.text.now c.args.room c.args.input.now.tokens.now c.settle.new.waiting.items) c.in-Whole.is)
 
 pub expression::level-operands-init : goal.expression::level-operands-init
 expression::level-operands-init t c = record { forward = omega arith; reads = ap (λ ws. resumed c.args.input.now.text.now c.args.room ws (level_at c.args.input.now.text.now c.args.room c.args.height (drop c.args.at c.args.input.now.tokens.now))) (sym c.new-waiting.ensures.items) }
 
 pub expression::level-operands-preserved : goal.expression::level-operands-preserved
-expression::level-operands-preserved t c = let on = subst (GoesOn (length c.args.input.now.tokens.now) c.in_ok-operand.behind) c.in-Operand.is c.in_ok-next.ensures.forward in record { forward = omega (arith, c.operands.invariant.forward, c.in_ok-operand.ensures.0, on.0); reads = reads_operand c.args.input.now.text.now c.args.room c.args.input.now.tokens.now (level_at c.args.input.now.text.now c.args.room c.args.height (drop c.args.at c.args.input.now.tokens.now)) c.operands.waiting.items c.in_ok-operand.operand c.operands.wanted c.operands.place c.in_ok-operand.behind c.operands.invariant.reads c.in_ok-operand.ensures.1 ∙ c.in_ok-next.ensures.value c.args.room ∙ ap (after c.args.input.now.text.now c.args.room c.args.input.now.tokens.now c.settle-next.new.waiting.items) c.in-Operand.is }
+expression::level-operands-preserved t c = let on = subst (GoesOn (length c.args.input.now.tokens.now) c.in_ok-operand.behind) c.in-Operand.is c.in_ok-next.ensures.forward in record { forward = omega (arith, c.operands.invariant.forward, c.in_ok-operand.ensures.0, on.0); reads = reads_operand c.args.input.now.text.now c.args.room c.args.input.now.tokens.now (level_at c.args.input.now.text.now c.args.room c.args.height (drop c.args.at c.args.input.now.tokens.now)) c.operands.waiting.items c.in_ok-operand.operand c.operands.wanted c.operands.place c.in_ok-operand.behind c.operands.invariant.reads c.in_ok-operand.ensures.1 ∙ c.in_ok-next.ensures.value c.args.room ∙ ap (after c.args.input.now.text.now c.args.room c.args.input.now.tokens.now c.settle.new.waiting.items) c.in-Operand.is }
 
 pub expression::level-operands-smaller : goal.expression::level-operands-smaller
 expression::level-operands-smaller t c = let on = subst (GoesOn (length c.args.input.now.tokens.now) c.in_ok-operand.behind) c.in-Operand.is c.in_ok-next.ensures.forward in omega (arith, c.in_ok-operand.ensures.0, on.0, on.1)
