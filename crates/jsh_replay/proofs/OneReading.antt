@@ -14,12 +14,11 @@ use Rattle.jsh_core.specs.History.{Allows, IsLegal, IsLegalAfter}
 use Rattle.jsh_replay.specs.Journal.{BeginsWith, BeginsWithEntry, IsBadPlace, IsJournal, IsNext, IsWritable, IsWritten, end_bytes, entry_bytes, field_bytes, front_bytes, header, journal_bytes, tag}
 use Rattle.jsh_replay.specs.Journal.{no_header, no_item, too_long}
 use Rattle.jsh_replay.specs.Reading.{behind_end, entry_at}
-use Rattle.jsh_replay.specs.Standing.{may_come, standing}
 use Rattle.jsh_replay.proofs.ActLaws.{entry_again, entry_takes}
 use Rattle.jsh_replay.proofs.EndLaws.{end-again, end-takes}
 use Rattle.jsh_replay.proofs.FieldLaws.{IsBytes, IsBytes-all, IsBytes-drop, Takes}
 use Rattle.jsh_replay.proofs.LegalLaws.{legal-few, written-push}
-use Rattle.jsh_replay.proofs.StandingLaws.{allowed-comes, comes-allowed}
+use Rattle.jsh_replay.proofs.StandingLaws.{allows_or_not, Decided}
 
 -- ---- what stands behind some entries
 
@@ -277,25 +276,25 @@ none-read history rest none begins =
     none-some {A = Entry × List ℕ} (begins.0, begins.1) (sym none ∙ ap entry_at begins.2.bytes_are ∙ entry_again begins.0 begins.1 begins.2.writable)
 
 -- no entry comes where the one that is read may not
-pub none-allowed : (history : List Entry) (rest : List ℕ) (x : Entry × List ℕ) → entry_at rest ≡ Some x → may_come (standing history) x.0 ≡ false → ¬ BeginsWithEntry history rest
+pub none-allowed : (history : List Entry) (rest : List ℕ) (x : Entry × List ℕ) → entry_at rest ≡ Some x → ¬ Allows history x.0 → ¬ BeginsWithEntry history rest
 none-allowed history rest x read refused begins =
     let same : x ≡ (begins.0, begins.1) = same_Some x (begins.0, begins.1) (sym read ∙ ap entry_at begins.2.bytes_are ∙ entry_again begins.0 begins.1 begins.2.writable) in
-    both_ways (may_come (standing history) x.0) refused (ap (λ (y : Entry × List ℕ). may_come (standing history) y.0) same ∙ allowed-comes history begins.0 begins.2.allowed)
+    refused (subst (λ (y : Entry × List ℕ). Allows history y.0) (sym same) begins.2.allowed)
 
 -- the entry that is read comes where it may
-pub next-read : (history : List Entry) (rest : List ℕ) (x : Entry × List ℕ) → IsBytes rest → entry_at rest ≡ Some x → may_come (standing history) x.0 ≡ true → IsNext history rest x.0 x.1
+pub next-read : (history : List Entry) (rest : List ℕ) (x : Entry × List ℕ) → IsBytes rest → entry_at rest ≡ Some x → Allows history x.0 → IsNext history rest x.0 x.1
 next-read history rest x fits read may =
     let t = entry_takes rest x fits read in
-    record { allowed = comes-allowed history x.0 may; writable = t.1; bytes_are = t.0.parts }
+    record { allowed = may; writable = t.1; bytes_are = t.0.parts }
 
 -- one item is read, and what stands behind it is shorter
 read_one : (fuel : ℕ) (bytes : List ℕ) (history : List Entry) (rest : List ℕ) → length rest ≤ suc fuel → IsFront bytes history rest → IsBytes rest →
     ((later : List Entry) (behind : List ℕ) → length behind ≤ fuel → IsFront bytes later behind → IsBytes behind → HasReading bytes) → HasReading bytes
 read_one fuel bytes history rest less front fits again = from (entry_at rest) refl
   where
-    by_test : (x : Entry × List ℕ) → entry_at rest ≡ Some x → (may : Bool) → may_come (standing history) x.0 ≡ may → HasReading bytes
-    by_test x read false refused = stopped bytes history rest front fits (none-allowed history rest x read refused)
-    by_test x read true may =
+    by_test : (x : Entry × List ℕ) → entry_at rest ≡ Some x → Decided (Allows history x.0) → HasReading bytes
+    by_test x read (inr refused) = stopped bytes history rest front fits (none-allowed history rest x read refused)
+    by_test x read (inl may) =
         let next : IsNext history rest x.0 x.1 = next-read history rest x fits read may in
         let t = entry_takes rest x fits read in
         let shorter : length x.1 < length rest = next-shorter history rest x.0 x.1 next in
@@ -303,7 +302,7 @@ read_one fuel bytes history rest less front fits again = from (entry_at rest) re
 
     from : (o : Option (Entry × List ℕ)) → entry_at rest ≡ o → HasReading bytes
     from None none = stopped bytes history rest front fits (none-read history rest none)
-    from (Some x) read = by_test x read (may_come (standing history) x.0) refl
+    from (Some x) read = by_test x read (allows_or_not history x.0)
 
 reads : (fuel : ℕ) (bytes : List ℕ) (history : List Entry) (rest : List ℕ) → length rest ≤ fuel → IsFront bytes history rest → IsBytes rest → HasReading bytes
 reads zero bytes history [] less front fits = stopped bytes history [] front fits (empty history)
