@@ -1,5 +1,5 @@
 -- An engine that is given the entries of a history stands as the history, though it keeps turns with the steps that they have done.
-use Rattle.std.proofs.Common.{◌≡◌, ℕ, ◌+◌, ◌<◌, ◌≤◌, List, [], ◌∷◌, ◌++◌, Bool, Some, length, refl, ap, sym, ◌∙◌, arith, length-append}
+use Rattle.std.proofs.Common.{◌≡◌, ℕ, ◌+◌, ◌<◌, ◌≤◌, List, [], ◌∷◌, ◌++◌, Bool, Some, length, refl, ap, sym, subst, ◌∙◌, append_assoc, append-nil, arith, length-append}
 use Rattle.std.specs.Prelude.{◌||◌}
 use Rattle.std.specs.List.{slice_get}
 use Rattle.jsh_snippet.specs.declared.acts.Act.{Act}
@@ -9,7 +9,7 @@ use Rattle.jsh_snippet.specs.declared.replies.Reply.{Reply}
 use Rattle.jsh_snippet.specs.declared.replies.ReplyBody.{ReplyBody}
 use Rattle.jsh_core.specs.State.{State, Stepped, opening}
 use Rattle.jsh_core.specs.Step.{kept, kept_act, step}
-use Rattle.jsh_core.specs.History.{act_bytes, is_close, replies_after, replies_of, source_bytes, state_after, state_of, Allows, HasRoom, HasRoomFor, MayDo}
+use Rattle.jsh_core.specs.History.{act_bytes, is_close, replies_after, replies_of, source_bytes, state_after, state_of, Allows, HasRoom, HasRoomFor, IsLegal, IsLegalAfter, MayDo}
 use Rattle.jsh_core.proofs.ByteLemmas.{bytes-kept}
 use Rattle.jsh_core.proofs.StandsLemmas.{source_bytes-more}
 use Rattle.jsh_core.proofs.Steps.{state_of-push, step-kept}
@@ -87,3 +87,13 @@ alike-push kept_entries history entry reply alike is = record {
     ∙ ap (λ b. is_closed history || b) (close-kept entry.act reply.body)
     ∙ sym (closed-push history entry);
 }
+
+legal_next : (past entries rest : List Entry) (entry : Entry) → IsLegalAfter past (entries ++ entry ∷ rest) → Allows (past ++ entries) entry
+legal_next past [] rest entry legal = subst (λ (h : List Entry). Allows h entry) (sym (append-nil past)) legal.0
+legal_next past (first ∷ entries) rest entry legal =
+    subst (λ (h : List Entry). Allows h entry) (append_assoc past (first ∷ []) entries) (legal_next (past ++ first ∷ []) entries rest entry legal.1)
+
+-- each entry of a legal history is allowed by those before it, and by what an engine keeps of them
+pub next-allowed : (kept_entries entries rest history : List Entry) (entry : Entry) → IsAlike kept_entries entries → IsLegal history → entries ++ entry ∷ rest ≡ history → Allows kept_entries entry
+next-allowed kept_entries entries rest history entry alike legal is =
+    alike-allows kept_entries entries entry alike (legal_next [] entries rest entry (subst (λ (h : List Entry). IsLegal h) (sym is) legal))

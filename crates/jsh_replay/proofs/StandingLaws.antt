@@ -4,6 +4,7 @@ use Rattle.std.specs.Prelude.{◌||◌, IsTrue}
 use Rattle.std.specs.List.{list_any, slice_get}
 use Rattle.std.proofs.lemmas.Bool.{cases_lt, le-leb, lt-leb}
 use Rattle.std.proofs.lemmas.List.Folds.{list_any-append}
+use Rattle.std.proofs.lemmas.Option.{slice_get_within}
 use Rattle.jsh_lex.specs.Spelling.{is_identifier}
 use Rattle.jsh_snippet.specs.declared.acts.Act.{Act}
 use Rattle.jsh_snippet.specs.declared.acts.Act.TheVariants as act
@@ -76,6 +77,11 @@ Keeps-push history sources clients after closed entry keeps moved = record {
     ∙ sym (ap (λ (s : State). s.clients) (state_of-push history entry));
   closed_is = ap (λ b. b || is_close entry.act) keeps.closed_is ∙ sym (closed-push history entry);
 }
+
+-- a client that may do something was numbered
+pub Keeps-within : (history : List Entry) (sources : ℕ) (clients : List Bool) (closed : Bool) (entry : Entry) → Keeps history sources clients closed → Allows history entry → entry.client < length clients
+Keeps-within history sources clients closed entry keeps allowed =
+    slice_get_within clients entry.client true (ap (λ (cs : List Bool). slice_get cs entry.client) keeps.clients_are ∙ allowed.present)
 
 -- ---- the test is what histories allow
 
