@@ -123,8 +123,8 @@ allowed_after past (entry ∷ entries) (suc i) d legal lt =
     (allowed_after (past ++ entry ∷ []) entries i d legal.1 (omega arith))
 
 -- each entry of a legal history is allowed by those before it
-pub legal-at : (history : List Entry) (i : ℕ) (d : Entry) → IsLegal history → i < length history → Allows (take i history) (get_or history i d)
-legal-at history i d legal lt = allowed_after [] history i d legal lt
+pub item-allowed : (history : List Entry) (i : ℕ) (entry : Entry) → IsLegal history → i < length history → entry ≡ get_or history i entry → Allows (take i history) entry
+item-allowed history i entry legal lt is = subst (λ (e : Entry). Allows (take i history) e) (sym is) (allowed_after [] history i entry legal lt)
 
 pub allowed-client : (history : List Entry) (entry : Entry) → Allows history entry → entry.client < 2 ^ 8
 allowed-client history entry allowed =

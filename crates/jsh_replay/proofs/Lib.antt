@@ -6,3 +6,4 @@ pub mod LegalLaws
 pub mod OneReading
 pub mod ReplayLaws
 pub mod AnswerLaws
+pub mod WritingLaws

@@ -69,13 +69,14 @@ closed-push history entry = list_any-append closes history (entry ∷ []) ∙ ap
     last true = refl
     last false = refl
 
-pub Keeps-push : (history : List Entry) (sources : ℕ) (clients after : List Bool) (closed : Bool) (entry : Entry) → Keeps history sources clients closed →
-    after ≡ clients_after clients entry.client entry.act → Keeps (history ++ entry ∷ []) (sources + act_bytes entry.act) after (closed || is_close entry.act)
-Keeps-push history sources clients after closed entry keeps moved = record {
-  sources_are = ap (λ n. n + act_bytes entry.act) keeps.sources_are ∙ sym (source_bytes-more history entry);
+-- what is kept goes on with an entry
+pub Keeps-push : (history after : List Entry) (sources added : ℕ) (clients left : List Bool) (closed ends : Bool) (entry : Entry) → Keeps history sources clients closed →
+    after ≡ history ++ entry ∷ [] → added ≡ act_bytes entry.act → left ≡ clients_after clients entry.client entry.act → ends ≡ (closed || is_close entry.act) → Keeps after (sources + added) left ends
+Keeps-push history after sources added clients left closed ends entry keeps longer text moved closes = record {
+  sources_are = ap (λ n. sources + n) text ∙ ap (λ n. n + act_bytes entry.act) keeps.sources_are ∙ sym (source_bytes-more history entry) ∙ ap source_bytes (sym longer);
   clients_are = moved ∙ ap (λ (cs : List Bool). clients_after cs entry.client entry.act) keeps.clients_are ∙ sym (step-clients (state_of history) entry)
-    ∙ sym (ap (λ (s : State). s.clients) (state_of-push history entry));
-  closed_is = ap (λ b. b || is_close entry.act) keeps.closed_is ∙ sym (closed-push history entry);
+    ∙ sym (ap (λ (s : State). s.clients) (state_of-push history entry)) ∙ ap (λ (h : List Entry). (state_of h).clients) (sym longer);
+  closed_is = closes ∙ ap (λ b. b || is_close entry.act) keeps.closed_is ∙ sym (closed-push history entry) ∙ ap is_closed (sym longer);
 }
 
 -- a client that may do something was numbered

@@ -1,6 +1,6 @@
 //! The entries that were read so far, and which may come next.
 
-ghost use Rattle.std.specs.Prelude.{◌≡◌, ◌↔◌, ◌<◌, ◌≤◌, ◌+◌, ◌∷◌, ◌++◌, [], Some, true, length, slice_get, IfOk, OnOk, OnErr, IsTrue, vec_len, vec_capacity};
+ghost use Rattle.std.specs.Prelude.{◌≡◌, ◌↔◌, ◌<◌, ◌≤◌, ◌+◌, ◌||◌, ◌∷◌, ◌++◌, [], Some, true, length, slice_get, IfOk, OnOk, OnErr, IsTrue, vec_len, vec_capacity};
 ghost use Rattle.jsh_tree.specs.Text.{most_source};
 ghost use Rattle.jsh_core.specs.Limits.{most_bytes};
 ghost use Rattle.jsh_core.specs.History.{act_bytes, is_close, source_bytes, target_text, Allows, HasRoom, IsTarget, MayDo};
@@ -182,7 +182,7 @@ impl Past {
         self.entries.reserve(1)?;
         count_clients(&mut self.clients, &entry)?;
         self.sources += act_bytes(&entry.act);
-        self.closed = self.closed || is_close(&entry.act);
+        self.closed = is_closed_by(self.closed, &entry.act);
         push_reserved(&mut self.entries, entry);
         Ok(())
     }
@@ -211,10 +211,11 @@ fn push_reserved(entries: &mut Vec<Entry>, entry: Entry)
     }
 }
 
-fn is_close(act: &Act) -> bool
-    ensures { result ≡ is_close act.now }
+/// Whether there was a close, behind an act.
+fn is_closed_by(closed: bool, act: &Act) -> bool
+    ensures { result ≡ (closed || is_close act.now) }
 {
-    matches!(act, Act::Close)
+    closed || matches!(act, Act::Close)
 }
 
 /// The bytes of source that an act has.
