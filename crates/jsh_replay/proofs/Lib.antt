@@ -7,3 +7,4 @@ pub mod OneReading
 pub mod ReplayLaws
 pub mod AnswerLaws
 pub mod WritingLaws
+pub mod ReadingLaws

@@ -246,7 +246,7 @@ bad-item bytes history rest place front stuck none at =
     let lengths : length bytes ≡ length (front_bytes history ++ rest) = ap length front.parts in
     no_item history rest front.written front.parts stuck (no-end history rest front.written none) (omega (arith, lengths, at, length-append (front_bytes history) rest))
 
-ends-parts : (bytes : List ℕ) (history : List Entry) (rest more : List ℕ) → IsFront bytes history rest → IsBytes rest → behind_end (length history) rest ≡ Some more → bytes ≡ journal_bytes history ++ more
+pub ends-parts : (bytes : List ℕ) (history : List Entry) (rest more : List ℕ) → IsFront bytes history rest → IsBytes rest → behind_end (length history) rest ≡ Some more → bytes ≡ journal_bytes history ++ more
 unfolding journal_bytes
 ends-parts bytes history rest more front fits e =
     front.parts ∙ ap (λ (x : List ℕ). front_bytes history ++ x) (an-end history rest more fits e) ∙ sym (append_assoc (front_bytes history) (end_bytes history) more)

@@ -97,3 +97,30 @@ legal_next past (first ∷ entries) rest entry legal =
 pub next-allowed : (kept_entries entries rest history : List Entry) (entry : Entry) → IsAlike kept_entries entries → IsLegal history → entries ++ entry ∷ rest ≡ history → Allows kept_entries entry
 next-allowed kept_entries entries rest history entry alike legal is =
     alike-allows kept_entries entries entry alike (legal_next [] entries rest entry (subst (λ (h : List Entry). IsLegal h) (sym is) legal))
+
+-- ---- one entry after the other
+
+pub alike-opening : (kept_entries : List Entry) → kept_entries ≡ [] → IsAlike kept_entries []
+alike-opening kept_entries none = subst (λ (h : List Entry). IsAlike h []) (sym none) (record { state = refl; count = refl; sources = refl; closed = refl })
+
+pub alike-applied : (kept_entries later entries : List Entry) (entry : Entry) (reply : Reply) → IsAlike kept_entries entries → reply ≡ (step (state_of kept_entries) entry).reply →
+    later ≡ kept_entries ++ kept entry reply ∷ [] → IsAlike later (entries ++ entry ∷ [])
+alike-applied kept_entries later entries entry reply alike is longer =
+    subst (λ (h : List Entry). IsAlike h (entries ++ entry ∷ [])) (sym longer) (alike-push kept_entries entries entry reply alike is)
+
+pub replied : (kept_entries entries : List Entry) (entry : Entry) (reply : Reply) (before after : List Reply) → IsAlike kept_entries entries → reply ≡ (step (state_of kept_entries) entry).reply →
+    before ≡ replies_of entries → after ≡ before ++ reply ∷ [] → after ≡ replies_of (entries ++ entry ∷ [])
+replied kept_entries entries entry reply before after alike is so_far pushed =
+    pushed ∙ ap (λ (rs : List Reply). rs ++ reply ∷ []) so_far ∙ ap (λ (r : Reply). replies_of entries ++ r ∷ []) (is ∙ ap (λ (s : State). (step s entry).reply) alike.state)
+    ∙ sym (replies_of-push entries entry)
+
+-- the next entry is taken
+pub taken : (entries rest later history : List Entry) (entry : Entry) → entries ++ rest ≡ history → rest ≡ entry ∷ later → entries ++ entry ∷ later ≡ history
+taken entries rest later history entry parts is = ap (λ (h : List Entry). entries ++ h) (sym is) ∙ parts
+
+pub taken-on : (entries rest later history : List Entry) (entry : Entry) → entries ++ rest ≡ history → rest ≡ entry ∷ later → (entries ++ entry ∷ []) ++ later ≡ history
+taken-on entries rest later history entry parts is = append_assoc entries (entry ∷ []) later ∙ taken entries rest later history entry parts is
+
+pub taken-all : (entries rest history : List Entry) → entries ++ rest ≡ history → length rest ≡ 0 → entries ≡ history
+taken-all entries [] history parts none = sym (append-nil entries) ∙ parts
+taken-all entries (entry ∷ rest) history parts none = absurd (omega arith)

@@ -1,5 +1,5 @@
 -- Each entry is one that a journal has room for, and what was written so far is the front of the journal.
-use Rattle.std.proofs.Common.{◌≡◌, ◌<◌, ◌≤◌, ◌^◌, length, take, arith}
+use Rattle.std.proofs.Common.{◌≡◌, ◌<◌, ◌≤◌, ◌^◌, length, take, arith, rules}
 use Rattle.jsh_core.specs.History.{Allows}
 use Rattle.jsh_replay.specs.Journal.{front_bytes, journal_bytes}
 use Rattle.jsh_replay.proofs.LegalLaws.{allowed-client, allowed-steps, allowed-text, item-allowed, legal-few}
