@@ -1,5 +1,5 @@
 use Rattle.std.proofs.Common.{◌≡◌, ◌++◌}
-use Rattle.std_alloc.specs.Vec.Iter.{into_iter_items}
+use Rattle.std.specs.Vec.Iter.{into_iter_items}
 use Rattle.jsh_core.specs.History.{replies_of}
 use Rattle.jsh_replay.proofs.ReplayLaws.{IsAlike}
 use Rattle.jsh_replay.proofs.replaying.replies_to.Given as goal
