@@ -1,11 +1,12 @@
 -- An entry comes exactly where one is read that may come.
+use Rattle.std.proofs.Common.{arith}
 use Rattle.jsh_replay.proofs.OneReading.{next-read, none-allowed, none-read}
 use Rattle.jsh_replay.proofs.StandingLaws.{clash}
 use Rattle.jsh_replay.proofs.reading.next_entry.Goals as goal
 
 pub returns-then-may_come-clause-found : goal.returns-then-may_come-clause-found
 returns-then-may_come-clause-found c =
-    next-read c.args.past.now c.args.bytes.now (c.in-Ok.entry, c.in-Ok.rest.now) c.type_inv.bytes c.in-Ok.ensures (c.may_come.ensures.0 c.if-may_come.true)
+    next-read c.args.past.now c.args.bytes.now (c.in-Ok.entry, c.in-Ok.rest.now) (λ i. omega (arith, c.type_inv.bytes i)) c.in-Ok.ensures (c.may_come.ensures.0 c.if-may_come.true)
 
 pub returns-in-Ok-clause-none : goal.returns-in-Ok-clause-none
 returns-in-Ok-clause-none c =
