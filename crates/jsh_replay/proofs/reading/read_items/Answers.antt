@@ -12,12 +12,12 @@ loop-past-init c = opened c.args.bytes.now c.in-Some.behind.now c.in_ok-past.pas
 
 pub loop-past-smaller : goal.loop-past-smaller
 loop-past-smaller c =
-    let next : IsNext c.loop-past.past c.loop-past.rest.now c.in-Some-2.entry c.in-Some-2.after.now = first_of (search rules, rw c.in-Some-2.is at c.in_ok-entry.ensures.found) in
+    let next : IsNext c.loop-past.past c.loop-past.rest.now c.in-Some-2.entry c.in-Some-2.after.now = rw c.in-Some-2.is at c.in_ok-entry.ensures.found in
     next-shorter c.loop-past.past c.loop-past.rest.now c.in-Some-2.entry c.in-Some-2.after.now next
 
 pub loop-past-preserved : goal.loop-past-preserved
 loop-past-preserved c =
-    let next : IsNext c.loop-past.past c.loop-past.rest.now c.in-Some-2.entry c.in-Some-2.after.now = first_of (search rules, rw c.in-Some-2.is at c.in_ok-entry.ensures.found) in
+    let next : IsNext c.loop-past.past c.loop-past.rest.now c.in-Some-2.entry c.in-Some-2.after.now = rw c.in-Some-2.is at c.in_ok-entry.ensures.found in
     went-on c.args.bytes.now c.loop-past.past c.push.new.self c.loop-past.rest.now c.in-Some-2.entry c.in-Some-2.after.now c.loop-past.invariant next c.in_ok-push.ensures.ok
 
 pub bad_journal-requires-in-Some-behind_end : goal.bad_journal-requires-in-Some-behind_end
@@ -27,7 +27,7 @@ bad_journal-requires-in-Some-behind_end c =
 
 pub returns-in-None : goal.returns-in-None
 returns-in-None c =
-    let stuck : ¬ BeginsWithEntry c.loop-past.past c.loop-past.rest.now = first_of (rw c.in_default-2.is at c.in_ok-entry.ensures.none, search rules) in
+    let stuck : ¬ BeginsWithEntry c.loop-past.past c.loop-past.rest.now = rw c.in_default-2.is at c.in_ok-entry.ensures.none in
     subst (λ (why : JournalError). HasCause c.args.bytes.now why) (sym c.bad_journal.ensures)
     (refused-item c.args.bytes.now c.loop-past.past c.loop-past.rest.now c.len.result (length c.args.bytes.now - length c.loop-past.rest.now) c.loop-past.invariant stuck c.len.ensures
     c.in-None.ensures refl)
