@@ -1,5 +1,5 @@
 -- Bytes are the journal of one history, or have one bad place.
-use Rattle.std.proofs.Common.{◌≡◌, ◌⊎◌, inl, inr, ℕ, zero, suc, ◌+◌, ◌-◌, ◌<◌, ◌≤◌, Bool, true, false, eqb, List, [], ◌∷◌, ◌++◌, Option, None, Some, length, take, drop, refl, ap, sym, subst, ◌∙◌, append_assoc, append-nil, length-append, arith}
+use Rattle.std.proofs.Common.{◌≡◌, ◌⊎◌, inl, inr, ℕ, zero, suc, ◌-◌, ◌<◌, ◌≤◌, Bool, true, false, eqb, List, [], ◌∷◌, ◌++◌, Option, None, Some, length, take, drop, refl, ap, sym, subst, ◌∙◌, append_assoc, append-nil, length-append, arith}
 use Rattle.std.specs.List.{flat_map, AllByRecursion}
 use Rattle.std.specs.Cmp.Lexicographic.{pointwise}
 use Rattle.std.proofs.lemmas.Bool.{both_ways}
@@ -10,7 +10,7 @@ use Rattle.std.proofs.lemmas.Slice.Eq.{starts_is}
 use Rattle.jsh_snippet.specs.declared.acts.Act.{Act}
 use Rattle.jsh_snippet.specs.declared.acts.Act.TheVariants as act
 use Rattle.jsh_snippet.specs.declared.acts.Entry.{Entry}
-use Rattle.jsh_core.specs.History.{Allows, IsLegal, IsLegalAfter}
+use Rattle.jsh_core.specs.History.{Allows, IsLegalAfter}
 use Rattle.jsh_replay.specs.Journal.{BeginsWith, BeginsWithEntry, IsBadPlace, IsJournal, IsNext, IsWritable, IsWritten, end_bytes, entry_bytes, field_bytes, front_bytes, header, journal_bytes, tag}
 use Rattle.jsh_replay.specs.Journal.{no_header, no_item, too_long}
 use Rattle.jsh_replay.specs.Reading.{behind_end, entry_at}
@@ -80,8 +80,8 @@ same_entries past [] (b ∷ others) r s legal fits legal' fits' e stuck stuck' =
 same_entries past (a ∷ more) [] r s legal fits legal' fits' e stuck stuck' = absurd (stuck' (goes-on past a more s r legal.0 fits.0 (sym e)))
 same_entries past (a ∷ more) (b ∷ others) r s legal fits legal' fits' e stuck stuck' =
     let heads : ◌≡◌ {A = Entry × List ℕ} (a, flat_map entry_bytes more ++ r) (b, flat_map entry_bytes others ++ s) =
-        same_entry a b (flat_map entry_bytes more ++ r) (flat_map entry_bytes others ++ s) fits.0 fits'.0
-        (sym (append_assoc (entry_bytes a) (flat_map entry_bytes more) r) ∙ e ∙ append_assoc (entry_bytes b) (flat_map entry_bytes others) s) in
+    same_entry a b (flat_map entry_bytes more ++ r) (flat_map entry_bytes others ++ s) fits.0 fits'.0
+    (sym (append_assoc (entry_bytes a) (flat_map entry_bytes more) r) ∙ e ∙ append_assoc (entry_bytes b) (flat_map entry_bytes others) s) in
     let first : a ≡ b = ap (λ (x : Entry × List ℕ). x.0) heads in
     let later : IsLegalAfter (past ++ a ∷ []) others = subst (λ (x : Entry). IsLegalAfter (past ++ x ∷ []) others) (sym first) legal'.1 in
     let still : ¬ BeginsWithEntry ((past ++ a ∷ []) ++ more) r = subst (λ (h : List Entry). ¬ BeginsWithEntry h r) (sym (append_assoc past (a ∷ []) more)) stuck in
@@ -175,11 +175,11 @@ not_both bytes history place is (no_header none at) =
     none (front-headed bytes history (end_bytes history) stuck.front)
 not_both bytes history place is (no_item other rest written parts stuck no_end at) =
     let same : AreSame history other (end_bytes history) rest =
-        one_stop bytes history other (end_bytes history) rest (journal-stuck bytes history is) (record { front = record { written = written; parts = parts }; stuck = stuck }) in
+    one_stop bytes history other (end_bytes history) rest (journal-stuck bytes history is) (record { front = record { written = written; parts = parts }; stuck = stuck }) in
     no_end ([], sym same.rests ∙ ap end_bytes same.entries ∙ sym (append-nil (end_bytes other)))
 not_both bytes history place is (too_long other byte rest written parts at) =
     let same : AreSame history other (end_bytes history) (end_bytes other ++ byte ∷ rest) =
-        one_stop bytes history other (end_bytes history) (end_bytes other ++ byte ∷ rest) (journal-stuck bytes history is) (long-stuck bytes other byte rest written parts) in
+    one_stop bytes history other (end_bytes history) (end_bytes other ++ byte ∷ rest) (journal-stuck bytes history is) (long-stuck bytes other byte rest written parts) in
     not_longer history other byte rest same.rests
 
 -- a place other than the header's

@@ -1,5 +1,5 @@
 -- An engine that is given the entries of a history stands as the history, though it keeps turns with the steps that they have done.
-use Rattle.std.proofs.Common.{◌≡◌, ℕ, ◌+◌, ◌<◌, ◌≤◌, List, [], ◌∷◌, ◌++◌, Bool, Some, length, refl, ap, sym, subst, ◌∙◌, append_assoc, append-nil, arith, length-append}
+use Rattle.std.proofs.Common.{◌≡◌, ℕ, ◌+◌, List, [], ◌∷◌, ◌++◌, length, refl, ap, sym, subst, ◌∙◌, append_assoc, append-nil, arith, length-append}
 use Rattle.std.specs.Prelude.{◌||◌}
 use Rattle.std.specs.List.{slice_get}
 use Rattle.jsh_snippet.specs.declared.acts.Act.{Act}
@@ -73,19 +73,19 @@ pub alike-push : (kept_entries history : List Entry) (entry : Entry) (reply : Re
     IsAlike (kept_entries ++ kept entry reply ∷ []) (history ++ entry ∷ [])
 alike-push kept_entries history entry reply alike is = record {
   state = state_of-push kept_entries (kept entry reply)
-    ∙ ap (λ (r : Reply). (step (state_of kept_entries) (kept entry r)).state) is
-    ∙ ap (λ (x : Stepped). x.state) (step-kept (state_of kept_entries) entry)
-    ∙ ap (λ (s : State). (step s entry).state) alike.state
-    ∙ sym (state_of-push history entry);
+      ∙ ap (λ (r : Reply). (step (state_of kept_entries) (kept entry r)).state) is
+      ∙ ap (λ (x : Stepped). x.state) (step-kept (state_of kept_entries) entry)
+      ∙ ap (λ (s : State). (step s entry).state) alike.state
+      ∙ sym (state_of-push history entry);
   count = length-append kept_entries (kept entry reply ∷ []) ∙ ap (λ n. n + 1) alike.count ∙ sym (length-append history (entry ∷ []));
   sources = source_bytes-more kept_entries (kept entry reply)
-    ∙ ap (λ n. n + act_bytes (kept_act entry.act reply.body)) alike.sources
-    ∙ ap (λ n. source_bytes history + n) (bytes-kept entry.act reply.body)
-    ∙ sym (source_bytes-more history entry);
+      ∙ ap (λ n. n + act_bytes (kept_act entry.act reply.body)) alike.sources
+      ∙ ap (λ n. source_bytes history + n) (bytes-kept entry.act reply.body)
+      ∙ sym (source_bytes-more history entry);
   closed = closed-push kept_entries (kept entry reply)
-    ∙ ap (λ b. b || is_close (kept_act entry.act reply.body)) alike.closed
-    ∙ ap (λ b. is_closed history || b) (close-kept entry.act reply.body)
-    ∙ sym (closed-push history entry);
+      ∙ ap (λ b. b || is_close (kept_act entry.act reply.body)) alike.closed
+      ∙ ap (λ b. is_closed history || b) (close-kept entry.act reply.body)
+      ∙ sym (closed-push history entry);
 }
 
 legal_next : (past entries rest : List Entry) (entry : Entry) → IsLegalAfter past (entries ++ entry ∷ rest) → Allows (past ++ entries) entry

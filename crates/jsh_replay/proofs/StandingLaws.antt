@@ -1,7 +1,7 @@
 -- What a reader keeps of a history decides which entry may come next.
-use Rattle.std.proofs.Common.{◌≡◌, ◌↔◌, ◌⊎◌, inl, inr, ℕ, ◌+◌, ◌<◌, ◌≤◌, ◌^◌, Bool, true, false, List, [], ◌∷◌, ◌++◌, Option, None, Some, length, refl, ap, sym, ◌∙◌, arith}
+use Rattle.std.proofs.Common.{◌≡◌, ◌↔◌, ◌⊎◌, inl, inr, ℕ, ◌+◌, ◌<◌, ◌≤◌, Bool, true, false, List, [], ◌∷◌, ◌++◌, Option, None, Some, length, refl, ap, sym, ◌∙◌, arith}
 use Rattle.std.specs.Prelude.{◌||◌, IsTrue}
-use Rattle.std.specs.List.{list_any, slice_get}
+use Rattle.std.specs.List.{slice_get}
 use Rattle.std.proofs.lemmas.Bool.{cases_lt, le-leb, lt-leb}
 use Rattle.std.proofs.lemmas.List.Folds.{list_any-append}
 use Rattle.std.proofs.lemmas.Option.{slice_get_within}
@@ -75,7 +75,7 @@ pub Keeps-push : (history after : List Entry) (sources added : ℕ) (clients lef
 Keeps-push history after sources added clients left closed ends entry keeps longer text moved closes = record {
   sources_are = ap (λ n. sources + n) text ∙ ap (λ n. n + act_bytes entry.act) keeps.sources_are ∙ sym (source_bytes-more history entry) ∙ ap source_bytes (sym longer);
   clients_are = moved ∙ ap (λ (cs : List Bool). clients_after cs entry.client entry.act) keeps.clients_are ∙ sym (step-clients (state_of history) entry)
-    ∙ sym (ap (λ (s : State). s.clients) (state_of-push history entry)) ∙ ap (λ (h : List Entry). (state_of h).clients) (sym longer);
+      ∙ sym (ap (λ (s : State). s.clients) (state_of-push history entry)) ∙ ap (λ (h : List Entry). (state_of h).clients) (sym longer);
   closed_is = closes ∙ ap (λ b. b || is_close entry.act) keeps.closed_is ∙ sym (closed-push history entry) ∙ ap is_closed (sym longer);
 }
 
@@ -142,9 +142,9 @@ within m n = elim (cases_lt n m) [ inl lt ↦ inr (λ (le : m ≤ n). omega arit
 
 same : (m n : ℕ) → Decided (m ≡ n)
 same m n = elim (cases_lt m n) [
-    | inl lt ↦ inr (λ (e : m ≡ n). omega arith)
-    | inr le ↦ elim (cases_lt n m) [ inl lt ↦ inr (λ (e : m ≡ n). omega arith) | inr ge ↦ inl (omega arith) ]
-  ]
+  | inl lt ↦ inr (λ (e : m ≡ n). omega arith)
+  | inr le ↦ elim (cases_lt n m) [ inl lt ↦ inr (λ (e : m ≡ n). omega arith) | inr ge ↦ inl (omega arith) ]
+]
 
 is_true : (b : Bool) → Decided (b ≡ true)
 is_true true = inl refl

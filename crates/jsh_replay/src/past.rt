@@ -112,7 +112,13 @@ fn may_do(entries: &[Entry], sources: u64, client: u32, act: &Act) -> bool
 }
 
 /// Whether an entry may come behind these, of which the rest is kept.
-fn is_allowed(entries: &[Entry], sources: u64, clients: &[bool], closed: bool, entry: &Entry) -> bool
+fn is_allowed(
+    entries: &[Entry],
+    sources: u64,
+    clients: &[bool],
+    closed: bool,
+    entry: &Entry,
+) -> bool
     requires { Keeps entries.now sources clients.now closed }
     ensures { IsTrue result ↔ Allows entries.now entry.now }
 {

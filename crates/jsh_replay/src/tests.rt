@@ -64,11 +64,13 @@ fn is_reply(place: usize, reply: &Reply) -> bool {
         (2, ReplyBody::Turned { steps }) => *steps == 2,
         (
             3,
-            ReplyBody::Collected(Collected::Over {
-                id,
-                name: _,
-                outcome,
-            }),
+            ReplyBody::Collected(
+                Collected::Over {
+                    id,
+                    name: _,
+                    outcome,
+                },
+            ),
         ) => *id == 1 && is_three(outcome),
         (4, ReplyBody::Left) => true,
         (5, ReplyBody::Closed) => true,

@@ -79,13 +79,7 @@ impl Plain {
             3 => behind_turn(fields),
             4 => behind(fields, 4),
             10 => Some(fields),
-            11 => {
-                if *client == 0 {
-                    Some(fields)
-                } else {
-                    None
-                }
-            }
+            11 => { if *client == 0 { Some(fields) } else { None } }
             _ => None,
         }
     }
@@ -164,7 +158,11 @@ fn a_journal_with_a_byte_changed_is_read_alike(rt: HostRuntime) {
         for byte in [0, 1, 255] {
             let mut bytes = ONE_SUM;
             bytes[place] = byte;
-            assert_eq!(rt; read(rt.alloc(), &bytes), plain_read(&bytes, 6), "{place} {byte}");
+            assert_eq!(rt;
+                read(rt.alloc(), &bytes),
+                plain_read(&bytes, 6),
+                "{place} {byte}"
+            );
         }
     }
 }

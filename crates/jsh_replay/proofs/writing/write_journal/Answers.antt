@@ -1,7 +1,6 @@
 -- Each entry is one that a journal has room for, and what was written so far is the front of the journal.
-use Rattle.std.proofs.Common.{◌≡◌, ◌<◌, ◌≤◌, ◌^◌, length, take, arith, rules}
-use Rattle.jsh_core.specs.History.{Allows}
-use Rattle.jsh_replay.specs.Journal.{front_bytes, journal_bytes}
+use Rattle.std.proofs.Common.{◌<◌, ◌^◌, length, take, arith, rules}
+use Rattle.jsh_replay.specs.Journal.{front_bytes}
 use Rattle.jsh_replay.proofs.LegalLaws.{allowed-client, allowed-steps, allowed-text, item-allowed, legal-few}
 use Rattle.jsh_replay.proofs.WritingLaws.{item-front, item-writable, whole-bytes, whole-writable}
 use Rattle.jsh_replay.proofs.writing.write_journal.Goals as goal
@@ -28,7 +27,7 @@ push_entry-requires-clause-steps c =
 pub loop-entry-preserved : goal.loop-entry-preserved
 loop-entry-preserved c = (
   item-front c.args.history.now c.loop-entry.entry-index c.entry-item.result c.loop-entry.out.items c.push_entry.new.out.items c.loop-entry-test.true c.entry-item.is c.loop-entry.invariant.0
-    c.in_ok-push_entry.ensures.bytes,
+      c.in_ok-push_entry.ensures.bytes,
   item-writable c.args.history.now c.loop-entry.entry-index c.entry-item.result c.loop-entry-test.true c.entry-item.is c.loop-entry.invariant.1 c.in_ok-push_entry.ensures.writable,
 )
 
@@ -44,5 +43,5 @@ pub returns-clause-journal : goal.returns-clause-journal
 returns-clause-journal c = record {
   written = record { legal = c.requires; writable = whole-writable c.args.history.now c.loop-entry.entry-index c.loop-entry-test.false c.loop-entry.invariant.1 };
   bytes_are = whole-bytes c.args.history.now c.loop-entry.entry-index c.loop-entry.out.items c.push.new.self.items c.to_be_bytes.result c.extend_from_slice-2.new.self.items c.loop-entry-test.false
-    c.loop-entry.invariant.0 c.in_ok-push.ensures.items c.to_be_bytes.ensures c.in_ok-extend_from_slice-2.ensures.items;
+      c.loop-entry.invariant.0 c.in_ok-push.ensures.items c.to_be_bytes.ensures c.in_ok-extend_from_slice-2.ensures.items;
 }
