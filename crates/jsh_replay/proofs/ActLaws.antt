@@ -1,5 +1,5 @@
 -- Acts and entries: what is read was written, and what is written is read again.
-use Rattle.std.proofs.Common.{◌≡◌, ℕ, suc, ◌^◌, ◌<◌, ◌==◌, Bool, true, false, cond, eqb, List, [], ◌∷◌, ◌++◌, Option, Some, None, refl, sym, ap, subst, ◌∙◌, append_assoc, arith, inl, inr}
+use Rattle.std.proofs.Common.{◌≡◌, ℕ, suc, ◌^◌, ◌==◌, Bool, true, false, cond, List, [], ◌∷◌, ◌++◌, Option, Some, None, refl, sym, ap, subst, ◌∙◌, append_assoc, inl, inr}
 use Rattle.std.specs.Int.{w16, w32, w64, to_be_bytes}
 use Rattle.std.proofs.lemmas.Bool.{eqb-true}
 use Rattle.std.proofs.lemmas.Option.{same_Some}
@@ -10,7 +10,7 @@ use Rattle.jsh_snippet.specs.declared.acts.Question.{Question}
 use Rattle.jsh_snippet.specs.declared.acts.Question.TheVariants as question
 use Rattle.jsh_snippet.specs.declared.acts.Target.{Target}
 use Rattle.jsh_snippet.specs.declared.acts.Target.TheVariants as target
-use Rattle.jsh_replay.specs.Journal.{text_bytes, target_bytes, question_bytes, tag, field_bytes, entry_bytes, IsText, IsTargetField, IsQuestionField, FitsFields, IsWritable}
+use Rattle.jsh_replay.specs.Journal.{text_bytes, target_bytes, question_bytes, tag, field_bytes, entry_bytes, IsTargetField, IsQuestionField, FitsFields, IsWritable}
 use Rattle.jsh_replay.specs.Reading.{◌>>=◌, number_at, text_at, target_by, target_at, plain_question, question_by, question_at, submit_at, turn_at, collect_at, expire_at, stop_at, drop_at, ask_at, act_by, entry_at}
 use Rattle.jsh_replay.proofs.FieldLaws.{IsBytes, IsBytes-rest, bind_some, chosen, Takes, Takes-then, Takes-one, wide16, wide32, wide64, number_takes, number_again, text_takes, text_again}
 

@@ -1,5 +1,5 @@
 -- Bytes are the journal of one history, or have one bad place.
-use Rattle.std.proofs.Common.{◌≡◌, ◌⊎◌, inl, inr, ℕ, zero, suc, ◌+◌, ◌-◌, ◌<◌, ◌≤◌, Bool, true, false, eqb, List, [], ◌∷◌, ◌++◌, Option, None, Some, length, take, drop, refl, ap, sym, subst, ◌∙◌, append_assoc, append-nil, length-append, arith}
+use Rattle.std.proofs.Common.{◌≡◌, ◌⊎◌, inl, inr, ℕ, zero, suc, ◌-◌, ◌<◌, ◌≤◌, Bool, true, false, eqb, List, [], ◌∷◌, ◌++◌, Option, None, Some, length, take, drop, refl, ap, sym, subst, ◌∙◌, append_assoc, append-nil, length-append, arith}
 use Rattle.std.specs.List.{flat_map, AllByRecursion}
 use Rattle.std.specs.Cmp.Lexicographic.{pointwise}
 use Rattle.std.proofs.lemmas.Bool.{both_ways}
@@ -10,7 +10,7 @@ use Rattle.std.proofs.lemmas.Slice.Eq.{starts_is}
 use Rattle.jsh_snippet.specs.declared.acts.Act.{Act}
 use Rattle.jsh_snippet.specs.declared.acts.Act.TheVariants as act
 use Rattle.jsh_snippet.specs.declared.acts.Entry.{Entry}
-use Rattle.jsh_core.specs.History.{Allows, IsLegal, IsLegalAfter}
+use Rattle.jsh_core.specs.History.{Allows, IsLegalAfter}
 use Rattle.jsh_replay.specs.Journal.{BeginsWith, BeginsWithEntry, IsBadPlace, IsJournal, IsNext, IsWritable, IsWritten, end_bytes, entry_bytes, field_bytes, front_bytes, header, journal_bytes, tag}
 use Rattle.jsh_replay.specs.Journal.{no_header, no_item, too_long}
 use Rattle.jsh_replay.specs.Reading.{behind_end, entry_at}

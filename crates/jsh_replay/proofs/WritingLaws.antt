@@ -4,8 +4,7 @@ use Rattle.std.specs.Int.{w32, to_be_bytes}
 use Rattle.std.specs.List.{AllByRecursion}
 use Rattle.std.proofs.lemmas.List.{take_all, take_more}
 use Rattle.jsh_snippet.specs.declared.acts.Entry.{Entry}
-use Rattle.jsh_core.specs.History.{IsLegal}
-use Rattle.jsh_replay.specs.Journal.{end_bytes, entry_bytes, front_bytes, journal_bytes, IsJournal, IsWritable}
+use Rattle.jsh_replay.specs.Journal.{end_bytes, entry_bytes, front_bytes, journal_bytes, IsWritable}
 use Rattle.jsh_replay.proofs.LegalLaws.{writable-push}
 use Rattle.jsh_replay.proofs.OneReading.{front-entry}
 

@@ -1,5 +1,5 @@
 -- What was read is the front of the bytes, and what comes behind it decides.
-use Rattle.std.proofs.Common.{◌-◌, ◌≡◌, length, refl, sym, subst, arith, rules}
+use Rattle.std.proofs.Common.{◌-◌, length, refl, sym, subst, arith}
 use Rattle.jsh_replay.specs.declared.journal_error.JournalError.{JournalError}
 use Rattle.jsh_replay.specs.Journal.{BeginsWithEntry, IsNext}
 use Rattle.jsh_replay.specs.Faults.{HasCause}

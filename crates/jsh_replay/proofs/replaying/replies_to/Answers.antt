@@ -1,5 +1,4 @@
 -- The engine stands as the entries so far, and the one that follows may come.
-use Rattle.std.proofs.Common.{◌≡◌, ◌∷◌}
 use Rattle.std.specs.Vec.Iter.{into_iter_items}
 use Rattle.jsh_replay.proofs.ReplayLaws.{alike-applied, next-allowed, replied, taken, taken-on}
 use Rattle.jsh_replay.proofs.replaying.replies_to.Goals as goal

@@ -1,7 +1,6 @@
 -- Each entry is one that a journal has room for, and what was written so far is the front of the journal.
-use Rattle.std.proofs.Common.{◌≡◌, ◌<◌, ◌≤◌, ◌^◌, length, take, arith, rules}
-use Rattle.jsh_core.specs.History.{Allows}
-use Rattle.jsh_replay.specs.Journal.{front_bytes, journal_bytes}
+use Rattle.std.proofs.Common.{◌<◌, ◌^◌, length, take, arith, rules}
+use Rattle.jsh_replay.specs.Journal.{front_bytes}
 use Rattle.jsh_replay.proofs.LegalLaws.{allowed-client, allowed-steps, allowed-text, item-allowed, legal-few}
 use Rattle.jsh_replay.proofs.WritingLaws.{item-front, item-writable, whole-bytes, whole-writable}
 use Rattle.jsh_replay.proofs.writing.write_journal.Goals as goal
