@@ -34,7 +34,7 @@ fn error_of(error: JournalError) -> Read {
     }
 }
 
-fn read(alloc: Global, bytes: &[u8]) -> Read {
+fn reading_of(alloc: Global, bytes: &[u8]) -> Read {
     match read_journal(alloc, bytes) {
         Ok(history) => Read::Entries(history.len()),
         Err(error) => error_of(error),

@@ -1,5 +1,5 @@
 //! The journal of a sum, cut short and changed.
-use super::{ONE_SUM, Read, read};
+use super::{ONE_SUM, Read, reading_of};
 use std::test::Fail;
 
 /// A reader that knows the six tags of that journal alone, and counts no limit.
@@ -11,7 +11,7 @@ struct Plain {
     closed: bool,
 }
 
-fn plain() -> Plain {
+fn at_header() -> Plain {
     let mut there = [false; 256];
     there[0] = true;
     Plain {
@@ -104,7 +104,7 @@ impl Plain {
 
 /// Where the first bad item begins behind a header, counted from the end of the bytes.
 fn left_at_fault(bytes: &[u8]) -> Option<usize> {
-    let mut at = plain();
+    let mut at = at_header();
     let mut rest = bytes;
     for _item in 0..bytes.len() {
         match at.behind_entry(rest) {
@@ -148,7 +148,7 @@ fn plain_read(bytes: &[u8], entries: usize) -> Read {
 fn a_journal_cut_short_is_bad_where_an_item_is_not_whole(rt: HostRuntime) {
     for len in 0..42 {
         let cut = &ONE_SUM[..len];
-        assert_eq!(rt; read(rt.alloc(), cut), plain_read(cut, 6), "{len}");
+        assert_eq!(rt; reading_of(rt.alloc(), cut), plain_read(cut, 6), "{len}");
     }
 }
 
@@ -159,7 +159,7 @@ fn a_journal_with_a_byte_changed_is_read_alike(rt: HostRuntime) {
             let mut bytes = ONE_SUM;
             bytes[place] = byte;
             assert_eq!(rt;
-                read(rt.alloc(), &bytes),
+                reading_of(rt.alloc(), &bytes),
                 plain_read(&bytes, 6),
                 "{place} {byte}"
             );
@@ -169,8 +169,8 @@ fn a_journal_with_a_byte_changed_is_read_alike(rt: HostRuntime) {
 
 #[test]
 fn the_places_of_the_example_are_told(rt: HostRuntime) -> Result<(), Fail> {
-    assert_eq!(rt; read(rt.alloc(), &ONE_SUM), Read::Entries(6));
-    assert_eq!(rt; read(rt.alloc(), &ONE_SUM[..41]), Read::Bad(37));
-    assert_eq!(rt; read(rt.alloc(), &[]), Read::Bad(0));
+    assert_eq!(rt; reading_of(rt.alloc(), &ONE_SUM), Read::Entries(6));
+    assert_eq!(rt; reading_of(rt.alloc(), &ONE_SUM[..41]), Read::Bad(37));
+    assert_eq!(rt; reading_of(rt.alloc(), &[]), Read::Bad(0));
     Ok(())
 }
