@@ -28,7 +28,7 @@ struct Job {
 }
 
 /// The words behind the program's name.
-fn job(all: Args) -> Job {
+fn job_of(all: Args) -> Job {
     let mut job = Job {
         writes: false,
         rounds: 0,
@@ -110,7 +110,7 @@ fn done(alloc: Global, job: Job) -> Outcome {
 }
 
 fn main(rt: HostRuntime) -> io::Result<()> {
-    let job = job(args(&rt)?);
+    let job = job_of(args(&rt)?);
     let last = done(rt.alloc(), job);
     println!(rt; "{last:?}")?;
     Ok(())
