@@ -1,0 +1,12 @@
+pub mod Histories
+pub mod Clients
+pub mod Allowed
+pub mod Adding
+pub mod Turns
+pub mod Moves
+pub mod Handing
+pub mod Replies
+pub mod Entered
+pub mod Seating
+pub mod Silence
+pub mod Evaluations
