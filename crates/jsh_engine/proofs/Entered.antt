@@ -16,7 +16,7 @@ use Rattle.jsh_engine.specs.declared.errors.EngineError.TheVariants as error
 use Rattle.jsh_engine.specs.Attempts.{answer_by, answered, attempt, attempt_unless, barred, ComesTo, Output, Whole}
 use Rattle.jsh_engine.proofs.Clients.{enter-comes, EnterComes}
 use Rattle.jsh_engine.proofs.Clients.EnterComes.{numbers, refused}
-use Rattle.jsh_engine.proofs.Replies.{comes-replied, Replied}
+use Rattle.jsh_engine.proofs.Replying.{comes-replied, Replied}
 
 -- an Enter that numbers a client
 pub record IsEntered (before : List Entry) (reply : Reply) (after : List Entry) : Type 0 where

@@ -34,7 +34,7 @@ use Rattle.jsh_engine.specs.Evaluating as evaluating
 use Rattle.jsh_engine.specs.Evaluating.{turn_steps, GoesOn, IsAtRest}
 use Rattle.jsh_engine.specs.Evaluating.GoesOn as goes_on
 use Rattle.jsh_engine.specs.Advancing.{Asks, LeadsTo}
-use Rattle.jsh_engine.proofs.Replies.{comes-replied, step-body, Replied}
+use Rattle.jsh_engine.proofs.Replying.{comes-replied, step-body, Replied}
 use Rattle.jsh_engine.proofs.Silence.{no-output}
 
 parted-whole : {A : Type 0} (says : A → ReplyBody) (answer : Result Reply EngineError) (told : List ℕ × A) → Parted says answer (Ok told) → answer ≡ Ok (record { output = told.0; body = says told.1 })

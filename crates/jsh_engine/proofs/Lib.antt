@@ -2,10 +2,10 @@ pub mod Histories
 pub mod Clients
 pub mod Allowed
 pub mod Adding
-pub mod Turns
-pub mod Moves
+pub mod Turning
+pub mod Moving
 pub mod Handing
-pub mod Replies
+pub mod Replying
 pub mod Entered
 pub mod Seating
 pub mod Silence

@@ -9,7 +9,7 @@ use Rattle.jsh_engine.specs.declared.errors.EngineError.{EngineError}
 use Rattle.jsh_engine.specs.declared.errors.EngineError.TheVariants as error
 use Rattle.jsh_engine.specs.declared.moves.Move.{Move}
 use Rattle.jsh_engine.specs.Driving.{cursor_after, main_of, MoveComes}
-use Rattle.jsh_engine.proofs.Moves.{drive-turns}
+use Rattle.jsh_engine.proofs.Moving.{drive-turns}
 use Rattle.jsh_engine.proofs.turns.drive.Goals as goal
 
 pub turn-requires-clause-can : goal.turn-requires-clause-can

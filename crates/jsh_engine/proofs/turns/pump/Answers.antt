@@ -7,7 +7,7 @@ use Rattle.jsh_engine.specs.declared.errors.EngineError.{EngineError}
 use Rattle.jsh_engine.specs.declared.errors.EngineError.TheVariants as error
 use Rattle.jsh_engine.specs.declared.moves.Move.{Move}
 use Rattle.jsh_engine.specs.Driving.{MoveComes}
-use Rattle.jsh_engine.proofs.Moves.{pump-turns}
+use Rattle.jsh_engine.proofs.Moving.{pump-turns}
 use Rattle.jsh_engine.proofs.turns.pump.Goals as goal
 
 pub turn-requires-clause-can : goal.turn-requires-clause-can

@@ -1,7 +1,7 @@
 -- A turn that was done stands with the steps that its reply counts.
 use Rattle.std.proofs.Common.{◌≡◌, ◌⊎◌, ◌∙◌, ap}
 use Rattle.jsh_snippet.specs.declared.replies.Reply.{Reply}
-use Rattle.jsh_engine.proofs.Turns.{turn-counted, turn-stands}
+use Rattle.jsh_engine.proofs.Turning.{turn-counted, turn-stands}
 use Rattle.jsh_core.specs.History.{state_of}
 use Rattle.jsh_engine.proofs.turns.take_turn.Goals as goal
 

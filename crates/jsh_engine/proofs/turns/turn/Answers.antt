@@ -2,7 +2,7 @@
 use Rattle.std.proofs.Common.{◌≡◌, ◌∙◌, refl, sym}
 use Rattle.jsh_engine.proofs.Adding.{turn-last}
 use Rattle.jsh_engine.proofs.Allowed.{turn-allowed}
-use Rattle.jsh_engine.proofs.Turns.{cut-last}
+use Rattle.jsh_engine.proofs.Turning.{cut-last}
 use Rattle.jsh_engine.proofs.turns.turn.Goals as goal
 
 pub take_turn-requires-clause-allows : goal.take_turn-requires-clause-allows

@@ -3,7 +3,7 @@ use Rattle.std.proofs.Common.{◌≡◌, refl, Ok, Err}
 use Rattle.jsh_snippet.specs.declared.acts.Act.TheVariants as act
 use Rattle.jsh_snippet.specs.declared.replies.ReplyBody.TheVariants as body
 use Rattle.jsh_engine.specs.Attempts.{Parted}
-use Rattle.jsh_engine.proofs.Replies.{calls-given, hands-replied, replied-expire}
+use Rattle.jsh_engine.proofs.Replying.{calls-given, hands-replied, replied-expire}
 use Rattle.jsh_engine.proofs.calls.Engine.expire.Goals as goal
 
 pub collected_parts-requires : goal.collected_parts-requires
