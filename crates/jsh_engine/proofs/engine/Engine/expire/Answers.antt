@@ -4,7 +4,7 @@ use Rattle.jsh_snippet.specs.declared.acts.Act.TheVariants as act
 use Rattle.jsh_snippet.specs.declared.replies.ReplyBody.TheVariants as body
 use Rattle.jsh_engine.specs.Attempts.{Parted}
 use Rattle.jsh_engine.proofs.Replying.{calls-given, hands-replied, replied-expire}
-use Rattle.jsh_engine.proofs.calls.Engine.expire.Goals as goal
+use Rattle.jsh_engine.proofs.engine.Engine.expire.Goals as goal
 
 pub collected_parts-requires : goal.collected_parts-requires
 collected_parts-requires g c = replied-expire c.in-Ok.ensures.hands.before c.args.seat.now.number c.args.run c.args.steps c.in-Ok.reply (hands-replied (act.Expire c.args.run c.args.steps) c.args.seat.now c.enact.new.seat c.in-Ok.reply c.in-Ok.ensures.hands)

@@ -4,7 +4,7 @@ use Rattle.jsh_engine.specs.Driving.{Pumps}
 use Rattle.jsh_engine.specs.Seats.{Seated}
 use Rattle.jsh_engine.specs.Shared.{seated}
 use Rattle.jsh_engine.proofs.Seating.{pumps-stays, opened, turned-of}
-use Rattle.jsh_engine.proofs.calls.Engine.pump.Goals as goal
+use Rattle.jsh_engine.proofs.engine.Engine.pump.Goals as goal
 
 pub pump-pass-requires-clause-last : goal.pump-pass-requires-clause-last
 pump-pass-requires-clause-last g c =

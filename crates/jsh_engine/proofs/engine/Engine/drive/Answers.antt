@@ -4,7 +4,7 @@ use Rattle.jsh_engine.specs.Driving.{Drives}
 use Rattle.jsh_engine.specs.Seats.{Seated}
 use Rattle.jsh_engine.specs.Shared.{seated}
 use Rattle.jsh_engine.proofs.Seating.{drives-stays, opened, turned-of}
-use Rattle.jsh_engine.proofs.calls.Engine.drive.Goals as goal
+use Rattle.jsh_engine.proofs.engine.Engine.drive.Goals as goal
 
 pub drive-pass-requires-clause-last : goal.drive-pass-requires-clause-last
 drive-pass-requires-clause-last g c =

@@ -4,7 +4,7 @@ use Rattle.jsh_snippet.specs.declared.replies.Outcome.{Outcome}
 use Rattle.jsh_engine.specs.declared.errors.EngineError.{EngineError}
 use Rattle.jsh_engine.specs.Evaluating.{GoesOn}
 use Rattle.jsh_engine.specs.Seats.{IsAt, Seated}
-use Rattle.jsh_engine.proofs.evaluation.Engine.go_on.Given as goal
+use Rattle.jsh_engine.proofs.engine.Engine.go_on.Given as goal
 
 abbrev pub invariant-calls : goal.invariant-calls
 invariant-calls g l = record {

@@ -4,7 +4,7 @@ use Rattle.jsh_snippet.specs.declared.acts.Act.TheVariants as act
 use Rattle.jsh_snippet.specs.declared.replies.ReplyBody.TheVariants as body
 use Rattle.jsh_engine.specs.Attempts.{Parted}
 use Rattle.jsh_engine.proofs.Replying.{calls-given, hands-replied, replied-collect}
-use Rattle.jsh_engine.proofs.calls.Engine.collect.Goals as goal
+use Rattle.jsh_engine.proofs.engine.Engine.collect.Goals as goal
 
 pub collected_parts-requires : goal.collected_parts-requires
 collected_parts-requires g c = replied-collect c.in-Ok.ensures.hands.before c.args.seat.now.number c.args.run c.in-Ok.reply (hands-replied (act.Collect c.args.run) c.args.seat.now c.enact.new.seat c.in-Ok.reply c.in-Ok.ensures.hands)
