@@ -35,7 +35,6 @@ use Rattle.jsh_engine.specs.Evaluating.{turn_steps, GoesOn, IsAtRest}
 use Rattle.jsh_engine.specs.Evaluating.GoesOn as goes_on
 use Rattle.jsh_engine.specs.Advancing.{Asks, LeadsTo}
 use Rattle.jsh_engine.proofs.Replying.{comes-replied, step-body, Replied}
-use Rattle.jsh_engine.proofs.Silence.{no-output}
 
 parted-whole : {A : Type 0} (says : A → ReplyBody) (answer : Result Reply EngineError) (told : List ℕ × A) → Parted says answer (Ok told) → answer ≡ Ok (record { output = told.0; body = says told.1 })
 parted-whole says (Ok reply) told given = ap Ok given
@@ -52,12 +51,6 @@ parted-replied {A} says what s t told calls = from calls.comes
     from : ComesTo (Parted says) calls.before tried (Ok told) t.seen → Replied calls.before what s.number (record { output = told.0; body = says told.1 })
     from (inl short) = let e : ◌≡◌ {A = Result (List ℕ × A) EngineError} (Ok told) (Err _) = short.0 in cc
     from (inr done) = comes-replied calls.before s.number what (record { output = told.0; body = says told.1 }) t.seen (inr (sym (parted-whole says tried.answer told done.0), done.1))
-
-pub parted-silent : {A : Type 0} (says : A → ReplyBody) (what : Act) (s t : Seated) (told : List ℕ × A) →
-    Calls (Parted says) (λ (before : List Entry). attempt before s.number what) s t (Ok told) → told.0 ≡ []
-parted-silent says what s t told calls =
-    let replied : Replied calls.before what s.number (record { output = told.0; body = says told.1 }) = parted-replied says what s t told calls in
-    ap (λ (r : Reply). r.output) replied.is ∙ no-output calls.before (by s.number what)
 
 -- an Expire doesn't answer that the run goes on
 pub expire-over : (run steps count : ℕ) (s t : Seated) (more : List ℕ) → evaluating.Expires run steps s t (Ok (more, «collected».Running count)) → ⊥
@@ -141,5 +134,7 @@ asks-leads budget run used output s m t at (advance.Waits text) below drives res
     λ u result goes. goes_on.running at asks.0 asks.1 below drives rest asks.2 (subst (λ (o : List ℕ). GoesOn budget run used o t u result) asks.3 goes)
 asks-leads budget run used output s m t at (advance.Ends (Ok told)) below drives rest asks =
     subst (λ (o : List ℕ). GoesOn budget run used output s t (Ok (o, told.1))) (sym asks.4) (goes_on.ended at asks.0 asks.1 asks.2 told.1 below drives rest asks.3)
-asks-leads budget run used output s m t at (advance.Ends (Err why)) below drives rest asks =
+asks-leads budget run used output s m t at (advance.Ends (Err why)) below drives rest (inl asks) =
     subst (λ (e : EngineError). GoesOn budget run used output s t (Err e)) (sym asks.2) (goes_on.not_ended at asks.0 below drives rest asks.1)
+asks-leads budget run used output s m t at (advance.Ends (Err why)) below drives rest (inr asks) =
+    subst (λ (e : EngineError). GoesOn budget run used output s t (Err e)) (sym asks.4) (goes_on.asked_lost at asks.0 asks.1 below asks.2 drives rest asks.3)

@@ -8,5 +8,4 @@ pub mod Handing
 pub mod Replying
 pub mod Entered
 pub mod Seating
-pub mod Silence
 pub mod Evaluations

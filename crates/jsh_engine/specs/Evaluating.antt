@@ -1,5 +1,5 @@
 -- What an evaluation comes to: a Submit, and for its run drives, and a Collect or an Expire at the end.
-use Rattle.std.specs.Prelude.{◌≡◌, ◌⊎◌, ℕ, ◌+◌, ◌-◌, ◌<◌, List, ◌++◌, Option, None, Some, Result, Ok, Err, min}
+use Rattle.std.specs.Prelude.{◌≡◌, ◌⊎◌, ℕ, ◌+◌, ◌-◌, ◌<◌, ◌≢◌, List, [], ◌++◌, Option, None, Some, Result, Ok, Err, min}
 use Rattle.jsh_snippet.specs.declared.acts.Act.TheVariants as act
 use Rattle.jsh_snippet.specs.declared.replies.Collected.{Collected}
 use Rattle.jsh_snippet.specs.declared.replies.Collected.TheVariants as «collected»
@@ -42,14 +42,21 @@ abbrev pub naming : ℕ → EngineError → EngineError
 naming run (error.NoMemory other) = error.NoMemory (Some run)
 naming run why = why
 
+-- outputs that are joined only where there is memory for both: neither is empty
+abbrev pub WantMemory : List ℕ → List ℕ → Type 0
+WantMemory output more = (output ≢ []) × (more ≢ [])
+
 -- The rest of an evaluation of a run, of whose budget so many steps are used, with the output so far: up to its outcome, or to the
--- first call that is refused or short of memory.
+-- first call that is refused or short of memory, or up to outputs for which memory was short: the entries then stand, and what the last one
+-- was answered is lost.
 pub data GoesOn (budget run : ℕ) : ℕ → List ℕ → Seated → Seated → Result (List ℕ × Outcome) EngineError → Type 0 where
   -- the whole budget is used: the run is given up, or has ended
   given_up : {used : ℕ} {output : List ℕ} {s t : Seated} (more : List ℕ) (id : ℕ) (name : List ℕ) (how : Outcome) → used ≡ budget
       → Expires run budget s t (Ok (more, «collected».Over id name how)) → GoesOn budget run used output s t (Ok (output ++ more, how))
   not_given_up : {used : ℕ} {output : List ℕ} {s t : Seated} (why : EngineError) → used ≡ budget
       → Expires run budget s t (Err why) → GoesOn budget run used output s t (Err (naming run why))
+  given_up_lost : {used : ℕ} {output : List ℕ} {s t : Seated} (more : List ℕ) (id : ℕ) (name : List ℕ) (how : Outcome) → used ≡ budget → WantMemory output more
+      → Expires run budget s t (Ok (more, «collected».Over id name how)) → GoesOn budget run used output s t (Err (error.NoMemory (Some run)))
   -- a thread has its turn
   turned : {used : ℕ} {output : List ℕ} {s m t : Seated} {result : Result (List ℕ × Outcome) EngineError} (thread steps : ℕ) → used < budget
       → Drives run (turn_steps budget used) s m (Ok (driven.Ran thread steps)) → GoesOn budget run (used + steps) output m t result → GoesOn budget run used output s t result
@@ -62,6 +69,9 @@ pub data GoesOn (budget run : ℕ) : ℕ → List ℕ → Seated → Seated → 
   not_ended : {used : ℕ} {output : List ℕ} {s m t : Seated} (at : Driven) (why : EngineError) → used < budget
       → Drives run (turn_steps budget used) s m (Ok at) → IsAtRest at
       → Collects run m t (Err why) → GoesOn budget run used output s t (Err (naming run why))
+  asked_lost : {used : ℕ} {output : List ℕ} {s m t : Seated} (at : Driven) (more : List ℕ) (what : Collected) → used < budget → WantMemory output more
+      → Drives run (turn_steps budget used) s m (Ok at) → IsAtRest at
+      → Collects run m t (Ok (more, what)) → GoesOn budget run used output s t (Err (error.NoMemory (Some run)))
   -- another client has made a thread Ready since
   running : {used : ℕ} {output : List ℕ} {s m n t : Seated} {result : Result (List ℕ × Outcome) EngineError} (at : Driven) (more : List ℕ) (steps : ℕ) → used < budget
       → Drives run (turn_steps budget used) s m (Ok at) → IsAtRest at

@@ -1,8 +1,8 @@
 //! An evaluation: a snippet, the turns of its run, and what becomes of it.
-ghost use Rattle.std.specs.Prelude.{◌≡◌, ◌+◌, ◌<◌, ◌≤◌, ◌++◌, [], min, IfOk, IsOk};
+ghost use Rattle.std.specs.Prelude.{◌≡◌, ◌+◌, ◌<◌, ◌≤◌, ◌++◌, [], min, MatchResult};
 ghost use Rattle.jsh_core.specs.Limits.{most_steps};
 ghost use Rattle.jsh_engine.specs.Seats.{IsAt};
-ghost use Rattle.jsh_engine.specs.Evaluating.{naming, Evaluates, GoesOn};
+ghost use Rattle.jsh_engine.specs.Evaluating.{naming, Evaluates, GoesOn, WantMemory};
 ghost use Rattle.jsh_engine.specs.Advancing.{Asks, IsWithin, LeadsTo};
 
 use crate::driven::Driven;
@@ -55,11 +55,13 @@ fn naming(run: u32, why: EngineError) -> EngineError
     }
 }
 
-/// One output behind another. An empty one takes no memory.
+/// One output behind another. It takes memory only where neither is empty.
 fn joined(output: UText, more: UText) -> Result<UText, NoMemory>
-    ensures text { IfOk result (λ text. text ≡ output ++ more) }
-    ensures empty { more ≡ [] → IsOk result }
+    ensures { MatchResult result (λ text. text ≡ output ++ more) (λ _. WantMemory output more) }
 {
+    if output.is_empty() {
+        return Ok(more);
+    }
     if more.is_empty() {
         return Ok(output);
     }
@@ -95,8 +97,7 @@ impl Engine {
         };
         match joined(output, more) {
             Ok(output) => Ok((output, outcome)),
-            // Nothing prints yet.
-            Err(_refused) => unreachable!(),
+            Err(_refused) => Err(EngineError::NoMemory { run: Some(run) }),
         }
     }
 
@@ -119,8 +120,7 @@ impl Engine {
         };
         let output = match joined(output, more) {
             Ok(output) => output,
-            // Nothing prints yet.
-            Err(_refused) => unreachable!(),
+            Err(_refused) => return Advance::Ends(Err(EngineError::NoMemory { run: Some(run) })),
         };
         match told {
             Collected::Over { outcome, .. } => Advance::Ends(Ok((output, outcome))),
