@@ -75,7 +75,7 @@ pub record Replied (before : List Entry) (what : Act) (client : ℕ) (reply : Re
 answered-whole : (found reply : Reply) (what : ReplyBody) → found.body ≡ what → answer_by found what ≡ Ok reply → (reply ≡ found) × ((why : Refusal) → reply.body ≡ body.Refused why → ⊥)
 answered-whole found reply what is e = from what is e
   where
-    plainly : (b : ReplyBody) → found.body ≡ b → ((why : Refusal) → b ≡ body.Refused why → ⊥) → Ok found ≡ Ok reply → (reply ≡ found) × ((why : Refusal) → reply.body ≡ body.Refused why → ⊥)
+    plainly : (b : ReplyBody) → found.body ≡ b → ((why : Refusal) → b ≡ body.Refused why → ⊥) → ◌≡◌ {A = Result Reply EngineError} (Ok found) (Ok reply) → (reply ≡ found) × ((why : Refusal) → reply.body ≡ body.Refused why → ⊥)
     plainly b is_b other e =
         let same : found ≡ reply = cc in
         (sym same, λ why refuses. other why (sym is_b ∙ ap (λ (r : Reply). r.body) same ∙ refuses))

@@ -1,5 +1,5 @@
 -- The client's place is behind the turn.
-use Rattle.std.proofs.Common.{◌≡◌, ◌∙◌, refl, sym}
+use Rattle.std.proofs.Common.{◌≡◌, ◌∙◌, ap, length, ltb, sym}
 use Rattle.jsh_engine.proofs.Adding.{turn-last}
 use Rattle.jsh_engine.proofs.Allowed.{turn-allowed}
 use Rattle.jsh_engine.proofs.Turning.{cut-last}
@@ -18,5 +18,6 @@ returns-in-Ok-clause-last c =
 
 pub returns-in-Err-clause-last : goal.returns-in-Err-clause-last
 returns-in-Err-clause-last c =
-    c.turned_after.ensures
-    ∙ cut-last c.args.core.now c.args.client c.args.thread c.args.max c.args.place.now.turned c.take_turn.new.core c.requires.last c.in-Err.ensures.cut _ refl
+    c.turned_after-place.ensures
+    ∙ cut-last c.args.core.now c.args.client c.args.thread c.args.max c.args.place.now.turned c.take_turn.new.core c.requires.last c.in-Err.ensures.cut.0
+    (ltb c.len-before.result c.len.result) (ap (λ n. ltb n c.len.result) c.len-before.ensures.entries ∙ ap (λ n. ltb (length c.args.core.now) n) c.len.ensures.entries)
