@@ -19,5 +19,5 @@ returns-in-Ok-clause-last c =
 pub returns-in-Err-clause-last : goal.returns-in-Err-clause-last
 returns-in-Err-clause-last c =
     c.turned_after-place.ensures
-    ∙ cut-last c.args.core.now c.args.client c.args.thread c.args.max c.args.place.now.turned c.take_turn.new.core c.requires.last c.in-Err.ensures.cut.0
+    ∙ cut-last c.args.core.now c.args.client c.args.thread c.args.max c.args.place.now.turned c.take_turn.new.core c.requires.last c.in-Err.ensures.cut
     (ltb c.len-before.result c.len.result) (ap (λ n. ltb n c.len.result) c.len-before.ensures.entries ∙ ap (λ n. ltb (length c.args.core.now) n) c.len.ensures.entries)
