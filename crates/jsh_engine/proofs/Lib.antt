@@ -9,3 +9,4 @@ pub mod Replying
 pub mod Entered
 pub mod Seating
 pub mod Evaluations
+pub mod Crossing
