@@ -8,5 +8,6 @@ pub mod Handing
 pub mod Replying
 pub mod Entered
 pub mod Seating
+pub mod Newcomers
 pub mod Evaluations
 pub mod Crossing

@@ -1,5 +1,5 @@
 -- A seat before and after a call.
-use Rattle.std.proofs.Common.{◌≡◌, ◌⊎◌, ℕ, false, List, ◌++◌, Option, None, Some, Result, IsSome, refl, ap, sym, ◌∙◌, subst, inl, inr, [], Ok, Err, length}
+use Rattle.std.proofs.Common.{◌≡◌, ◌⊎◌, ℕ, false, List, ◌∷◌, ◌++◌, Option, None, Some, Result, IsSome, refl, ap, sym, ◌∙◌, subst, inl, inr, [], Ok, Err, length}
 use Rattle.std.specs.List.{list_any}
 use Rattle.atomic_table.specs.Seated.{TableId}
 use Rattle.jsh_snippet.specs.declared.acts.Act.{Act}
@@ -21,11 +21,11 @@ use Rattle.jsh_engine.specs.Seats.{has_left, is_leave, own, Finds, IsAt, IsSameS
 use Rattle.jsh_engine.specs.Attempts.{attempt, Attempt, Calls, ComesTo, IsAsked, Output}
 use Rattle.jsh_engine.specs.Entering.{newcomer, Admits, Enters}
 use Rattle.jsh_engine.specs.Driving.{last_turn, DriveComes, Drives, PumpComes, Pumps}
-use Rattle.jsh_engine.specs.Meeting.{Learns}
+use Rattle.jsh_engine.specs.Meeting.{Gathers, Learns}
 use Rattle.jsh_engine.specs.Shared.{entries, pairs, seated, seated_or, IsKept}
 use Rattle.jsh_engine.proofs.Adding.{is_turn, adds-last, adds-stays, comes-adds, drive-adds, pump-adds, Adds}
 use Rattle.jsh_engine.proofs.Entered.{reply_with}
-use Rattle.jsh_engine.proofs.Histories.{entries-found, entries-own, entries-pairs, pairs-found}
+use Rattle.jsh_engine.proofs.Histories.{entries-found, entries-longer, entries-own, entries-pairs, pairs-found}
 
 module _ {T : Type 0} {g : Ghosts T Act} where
   -- the pass of a seat, as that seat
@@ -113,12 +113,12 @@ asked-unturned client act.Leave asked = refl
 asked-unturned client act.Close asked = refl
 
 -- what was added is known of the seat behind the call
-added-last : (asked : Act) (s t : Seated) (before : List Entry) → Finds s before → IsSameSeat s t → Adds asked s.number before t.seen → is_turn asked ≡ false →
+pub added-last : (asked : Act) (s t : Seated) (before : List Entry) → Finds s before → IsSameSeat s t → Adds asked s.number before t.seen → is_turn asked ≡ false →
     last_turn 0 (own t.seen t.number) ≡ last_turn 0 (own s.seen s.number)
 added-last asked s t before finds same adds plain =
     ap (λ n. last_turn 0 (own t.seen n)) same.number ∙ adds-last asked s.number before t.seen adds plain ∙ ap (last_turn 0) finds.own_entries
 
-added-stays : (asked : Act) (engine : TableId) (s t : Seated) (before : List Entry) → Finds s before → IsSameSeat s t → Adds asked s.number before t.seen → is_leave asked ≡ false →
+pub added-stays : (asked : Act) (engine : TableId) (s t : Seated) (before : List Entry) → Finds s before → IsSameSeat s t → Adds asked s.number before t.seen → is_leave asked ≡ false →
     IsAt engine s → IsAt engine t
 added-stays asked engine s t before finds same adds plain here = record {
   here = same.engine ∙ here.here;
@@ -161,6 +161,12 @@ finds-stays engine s t same number finds here = record {
 pub learns-last : (s t : Seated) → Learns s t → last_turn 0 (own t.seen t.number) ≡ last_turn 0 (own s.seen s.number)
 learns-last s t learns = let same : IsSameSeat s t = learns.same in finds-last s t same.number learns.finds
 
+pub gathers-last : (s gone t : Seated) → Gathers s gone t → last_turn 0 (own t.seen t.number) ≡ last_turn 0 (own s.seen s.number)
+gathers-last s gone t gathers = finds-last s t gathers.number gathers.finds
+
+pub gathers-stays : (engine : TableId) (s gone t : Seated) → Gathers s gone t → IsAt engine s → IsAt engine t
+gathers-stays engine s gone t gathers here = finds-stays engine s t gathers.engine gathers.number gathers.finds here
+
 pub learns-stays : (engine : TableId) (s t : Seated) → Learns s t → IsAt engine s → IsAt engine t
 learns-stays engine s t learns here = let same : IsSameSeat s t = learns.same in finds-stays engine s t same.engine same.number learns.finds here
 
@@ -202,6 +208,30 @@ module _ {T : Type 0} {g : Ghosts T Act} where
     cursor = refl;
     finds = subst (λ (h : List (ℕ × Act)). Finds (seated pass cursor) (entries h)) (sym seen)
         (entries-found pass cursor history begins (ap (lock.own history) (sym same.1) ∙ mine) gathered);
+  }
+
+  -- the lock's first pass, as the seat of client 0
+  pub first-seat : (pass : Pass T Act g) (engine : TableId) → lock_of pass ≡ engine → pass.number ≡ 0 → seen_by pass ≡ [] → gathered_by pass ≡ [] → seated pass 0 ≡ newcomer engine 0 []
+  first-seat pass engine same number seen none =
+      ap (λ (e : TableId). seat_with e pass.number (entries (seen_by pass)) (gathered_by pass)) same
+      ∙ ap (λ (n : ℕ). seat_with engine n (entries (seen_by pass)) (gathered_by pass)) number
+      ∙ ap (λ (h : List (ℕ × Act)). seat_with engine 0 (entries h) (gathered_by pass)) seen
+      ∙ ap (λ (l : List ℕ). seat_with engine 0 [] l) none
+
+  -- a pass in which another one has ended
+  pub gathered-in : (pass gone after : Pass T Act g) → (lock_of after ≡ lock_of pass) × (after.number ≡ pass.number) → gathered_by after ≡ gathered_by pass ++ gone.number ∷ gathered_by gone →
+      seen_by after ≡ lock.longer (seen_by pass) (seen_by gone) → lock.StartsWith (seen_by after) (seen_by pass) × lock.StartsWith (seen_by after) (seen_by gone) →
+      lock.own (seen_by after) after.number ≡ lock.own (seen_by pass) pass.number → KeepsGathered pass (seen_by after) →
+      (lock.own (seen_by after) gone.number ≡ lock.own (seen_by gone) gone.number) × KeepsGathered gone (seen_by after) →
+      (cursor gone_cursor : ℕ) → Gathers (seated pass cursor) (seated gone gone_cursor) (seated after cursor)
+  gathered-in pass gone after same gathers seen begins mine gathered ended cursor gone_cursor = record {
+    engine = same.0;
+    number = same.1;
+    cursor = refl;
+    gathered = gathers;
+    seen = ap entries seen ∙ entries-longer (seen_by pass) (seen_by gone);
+    finds = entries-found pass cursor (seen_by after) begins.0 (ap (lock.own (seen_by after)) (sym same.1) ∙ mine) gathered;
+    keeps = entries-found gone gone_cursor (seen_by after) begins.1 ended.0 ended.1;
   }
 
   -- the pass that was split off, as the seat of the new client
