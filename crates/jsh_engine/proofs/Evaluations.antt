@@ -8,7 +8,10 @@ use Rattle.jsh_snippet.specs.declared.replies.ReplyBody.{ReplyBody}
 use Rattle.jsh_snippet.specs.declared.replies.ReplyBody.TheVariants as body
 use Rattle.jsh_snippet.specs.declared.replies.Collected.{Collected}
 use Rattle.jsh_snippet.specs.declared.replies.Collected.TheVariants as «collected»
+use Rattle.jsh_snippet.specs.declared.replies.Outcome.{Outcome}
+use Rattle.jsh_snippet.specs.declared.replies.Outcome.TheVariants as outcome
 use Rattle.jsh_snippet.specs.declared.replies.Refusal.TheVariants as refusal
+use Rattle.jsh_snippet.specs.declared.replies.Submitted.{Submitted}
 use Rattle.jsh_sched.specs.Pick.{picked}
 use Rattle.jsh_core.specs.declared.world.RunView.{RunView}
 use Rattle.jsh_core.specs.State.{State, Acted}
@@ -31,7 +34,7 @@ use Rattle.jsh_engine.specs.Seats.{own, Seated}
 use Rattle.jsh_engine.specs.Attempts.{attempt, barred_by_close, barred_by_length, Attempt, Calls, ComesTo, Parted}
 use Rattle.jsh_engine.specs.Driving.{drive_found, drive_move, drive_own, last_turn, main_of, move_with, turn_of, unless_closed, Drives, IsTurn, MoveComes}
 use Rattle.jsh_engine.specs.Evaluating as evaluating
-use Rattle.jsh_engine.specs.Evaluating.{turn_steps, GoesOn, IsAtRest}
+use Rattle.jsh_engine.specs.Evaluating.{naming, told, turn_steps, Evaluates, GoesOn, GoesOnWith, IsAtRest, Submits}
 use Rattle.jsh_engine.specs.Evaluating.GoesOn as goes_on
 use Rattle.jsh_engine.specs.Advancing.{Asks, LeadsTo}
 use Rattle.jsh_engine.proofs.Replying.{comes-replied, step-body, Replied}
@@ -138,3 +141,42 @@ asks-leads budget run used output s m t at (advance.Ends (Err why)) below drives
     subst (λ (e : EngineError). GoesOn budget run used output s t (Err e)) (sym asks.2) (goes_on.not_ended at asks.0 below drives rest asks.1)
 asks-leads budget run used output s m t at (advance.Ends (Err why)) below drives rest (inr asks) =
     subst (λ (e : EngineError). GoesOn budget run used output s t (Err e)) (sym asks.4) (goes_on.asked_lost at asks.0 asks.1 below asks.2 drives rest asks.3)
+
+-- a drive that is refused, or short of memory, ends the evaluation
+pub drive-leads : (budget run used : ℕ) (output : List ℕ) (s t : Seated) (why told : EngineError) → used < budget → Drives run (turn_steps budget used) s t (Err why) →
+    told ≡ naming run why → GoesOn budget run used output s t (Err told)
+drive-leads budget run used output s t why told below drives is =
+    subst (λ (e : EngineError). GoesOn budget run used output s t (Err e)) (sym is) (goes_on.not_turned why below drives)
+
+-- the run is given up, and this is told with all its output
+pub given_up-told : (budget run : ℕ) (output text more : List ℕ) (s t : Seated) (id : ℕ) (name : List ℕ) (how : Outcome) →
+    evaluating.Expires run budget s t (Ok (more, «collected».Over id name how)) → text ≡ output ++ more → GoesOn budget run budget output s t (Ok (text, how))
+given_up-told budget run output text more s t id name how expires is =
+    subst (λ (o : List ℕ). GoesOn budget run budget output s t (Ok (o, how))) (sym is) (goes_on.given_up more id name how refl expires)
+
+pub given_up-refused : (budget run : ℕ) (output : List ℕ) (s t : Seated) (why told : EngineError) → evaluating.Expires run budget s t (Err why) → told ≡ naming run why →
+    GoesOn budget run budget output s t (Err told)
+given_up-refused budget run output s t why told expires is =
+    subst (λ (e : EngineError). GoesOn budget run budget output s t (Err e)) (sym is) (goes_on.not_given_up why refl expires)
+
+-- an evaluation whose Submit was refused, or has made no run, or a run
+pub evaluates-refused : (source : List ℕ) (budget : ℕ) (s t : Seated) (why : EngineError) → Submits source s t (Err why) → Evaluates source budget s t (Err why)
+evaluates-refused source budget s t why submits = record { behind = t; first = Err why; submits = submits; goes_on = (refl, refl) }
+
+pub evaluates-nothing : (source : List ℕ) (budget : ℕ) (s t : Seated) (output : List ℕ) (what : Submitted) → Submits source s t (Ok (output, what)) → what.run ≡ None →
+    Evaluates source budget s t (Ok (record { output = output; submitted = what; outcome = outcome.NoRun }))
+evaluates-nothing source budget s t output what submits none = record {
+  behind = t;
+  first = Ok (output, what);
+  submits = submits;
+  goes_on = subst (λ (run : Option ℕ). GoesOnWith budget what run output t t (Ok (record { output = output; submitted = what; outcome = outcome.NoRun }))) (sym none) (refl, refl);
+}
+
+pub evaluates-run : (source : List ℕ) (budget : ℕ) (s m t : Seated) (output : List ℕ) (what : Submitted) (run : ℕ) (found : Result (List ℕ × Outcome) EngineError) →
+    Submits source s m (Ok (output, what)) → what.run ≡ Some run → GoesOn budget run 0 output m t found → Evaluates source budget s t (told what found)
+evaluates-run source budget s m t output what run found submits some goes = record {
+  behind = m;
+  first = Ok (output, what);
+  submits = submits;
+  goes_on = subst (λ (made : Option ℕ). GoesOnWith budget what made output m t (told what found)) (sym some) (found, goes, refl);
+}
