@@ -1,5 +1,5 @@
 -- The seat of a client that was just numbered, and the one that asked for it.
-use Rattle.std.proofs.Common.{◌≡◌, inl, inr, ℕ, false, List, [], Result, Ok, Err, refl, ap, sym, ◌∙◌}
+use Rattle.std.proofs.Common.{◌≡◌, inl, inr, ℕ, false, List, [], None, Result, Ok, Err, refl, ap, sym, ◌∙◌}
 use Rattle.std.specs.List.{list_any}
 use Rattle.atomic_table.specs.Seated.{TableId}
 use Rattle.jsh_snippet.specs.declared.acts.Act.TheVariants as act
@@ -45,7 +45,7 @@ enters-fresh s t told enters = from enters.comes
     admitted (Err why) is = absurd is
 
     from : ComesTo (Admits s.engine enters.before) enters.before tried (Ok told) t.seen → IsFresh s told.1
-    from (inl short) = let e : ◌≡◌ {A = Result (List ℕ × Seated) EngineError} (Ok told) (Err (error.NoMemory _)) = short.0 in cc
+    from (inl short) = let e : ◌≡◌ {A = Result (List ℕ × Seated) EngineError} (Ok told) (Err (error.NoMemory None)) = short.0 in cc
     from (inr done) = admitted tried.answer done.0
 
 pub fresh-last : (s seat : Seated) → IsFresh s seat → 0 ≡ last_turn 0 (own seat.seen seat.number)
