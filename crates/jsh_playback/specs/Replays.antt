@@ -1,5 +1,5 @@
 -- What a replay comes to: its status, what it read, and what it wrote.
-use Rattle.std.specs.Prelude.{◌≡◌, ℕ, ◌<◌, ◌≤◌, ◌⊎◌, ¬◌, Bool, true, false, List, [], ◌∷◌, Option, None, Some, option_and_then, IfSome, IsSomeAnd, length, take}
+use Rattle.std.specs.Prelude.{◌≡◌, ℕ, ◌<◌, ◌≤◌, ◌⊎◌, Bool, true, false, List, [], ◌∷◌, Option, None, Some, option_and_then, IfSome, IsSomeAnd, length, take}
 use Rattle.jsh_io.specs.Count.{Rose}
 use Rattle.jsh_io.specs.Inputs.{Inputs, bytes_of}
 use Rattle.jsh_snippet.specs.declared.acts.Entry.{Entry}
@@ -8,8 +8,10 @@ use Rattle.jsh_words.specs.declared.meaning.Meaning.TheVariants.{Replay}
 use Rattle.jsh_words.specs.Meant.{meaning}
 use Rattle.jsh_replay.specs.Journal.{IsJournal}
 use Rattle.jsh_shell.specs.Statuses.{all_served, memory_short, read_failed, write_failed}
+use Rattle.jsh_playback.specs.declared.halts.Halt.{Halt}
+use Rattle.jsh_playback.specs.declared.halts.Halt.TheVariants as halt
 use Rattle.jsh_playback.specs.Playing.{played}
-use Rattle.jsh_playback.specs.Reading.{most_journal, Reads}
+use Rattle.jsh_playback.specs.Reading.{most_journal, IsNoJournal, Reads}
 
 -- the bytes aren't a journal, or there are too many
 abbrev pub no_journal : ℕ
@@ -19,17 +21,27 @@ abbrev pub replayed_file : Meaning → Option (List ℕ)
 replayed_file (Replay name) = Some name
 replayed_file _ = None
 
+-- the status of a replay that halts so
+abbrev pub status_of : Halt → ℕ
+status_of halt.NoMemory = memory_short
+status_of halt.SourceFailed = read_failed
+status_of halt.NoJournal = no_journal
+
 -- the file that these words ask to be replayed
 abbrev pub file_of : List (List ℕ) → Option (List ℕ)
 file_of words = option_and_then replayed_file (meaning words)
+
+-- the bytes are a journal, and this is what its replay writes
+abbrev pub IsPlayed : List ℕ → List ℕ → Type 0
+IsPlayed journal text = (history : List Entry) × IsJournal journal history × (text ≡ played history)
 
 -- a sink that tells its bytes holds none
 abbrev pub HoldsNothing : Option (List ℕ) → Type 0
 HoldsNothing held = IfSome held (λ bytes. bytes ≡ [])
 
--- a sink that tells its bytes holds the beginning of what the replay of this history writes
+-- a sink that tells its bytes holds a true front of what the replay of this history writes
 abbrev pub HoldsPart : List Entry → Option (List ℕ) → Type 0
-HoldsPart history held = IfSome held (λ bytes. (n : ℕ) × (bytes ≡ take n (played history)))
+HoldsPart history held = IfSome held (λ bytes. (n : ℕ) × (n < length (played history)) × (bytes ≡ take n (played history)))
 
 -- Each status with its cause, what the sink holds then, and the counts of faults of the source and the sink.
 pub data Ends (status : ℕ) (read : List ℕ) (ended : Bool) (held : Option (List ℕ)) (reads_before reads_after writes_before writes_after : ℕ) : Type 0 where
@@ -46,7 +58,7 @@ pub data Ends (status : ℕ) (read : List ℕ) (ended : Bool) (held : Option (Li
   too_long : status ≡ no_journal → most_journal < length read → HoldsNothing held
       → reads_after ≡ reads_before → writes_after ≡ writes_before
       → Ends status read ended held reads_before reads_after writes_before writes_after
-  none : status ≡ no_journal → ended ≡ true → length read ≤ most_journal → ((history : List Entry) → ¬ IsJournal read history) → HoldsNothing held
+  none : status ≡ no_journal → ended ≡ true → length read ≤ most_journal → IsNoJournal read → HoldsNothing held
       → reads_after ≡ reads_before → writes_after ≡ writes_before
       → Ends status read ended held reads_before reads_after writes_before writes_after
   -- want of memory comes before anything is written
