@@ -1,7 +1,7 @@
 -- What a replay comes to: its status, what it read, and what it wrote.
 use Rattle.std.specs.Prelude.{◌≡◌, ℕ, ◌<◌, ◌≤◌, ◌⊎◌, Bool, true, false, List, [], ◌∷◌, Option, None, Some, option_and_then, IfSome, IsSomeAnd, length, take}
 use Rattle.jsh_io.specs.Count.{Rose}
-use Rattle.jsh_io.specs.Inputs.{Inputs, bytes_of}
+use Rattle.jsh_io.specs.Inputs.{Inputs, bytes_of, IsEmptyWhereTold}
 use Rattle.jsh_snippet.specs.declared.acts.Entry.{Entry}
 use Rattle.jsh_words.specs.declared.meaning.Meaning.{Meaning}
 use Rattle.jsh_words.specs.declared.meaning.Meaning.TheVariants.{Replay}
@@ -35,10 +35,6 @@ file_of words = option_and_then replayed_file (meaning words)
 abbrev pub IsPlayed : List ℕ → List ℕ → Type 0
 IsPlayed journal text = (history : List Entry) × IsJournal journal history × (text ≡ played history)
 
--- a sink that tells its bytes holds none
-abbrev pub HoldsNothing : Option (List ℕ) → Type 0
-HoldsNothing held = IfSome held (λ bytes. bytes ≡ [])
-
 -- a sink that tells its bytes holds a true front of what the replay of this history writes
 abbrev pub HoldsPart : List Entry → Option (List ℕ) → Type 0
 HoldsPart history held = IfSome held (λ bytes. (n : ℕ) × (n < length (played history)) × (bytes ≡ take n (played history)))
@@ -49,20 +45,20 @@ pub data Ends (status : ℕ) (read : List ℕ) (ended : Bool) (held : Option (Li
   whole : (history : List Entry) → status ≡ all_served → ended ≡ true → length read ≤ most_journal → IsJournal read history
       → IfSome held (λ bytes. bytes ≡ played history) → reads_after ≡ reads_before → writes_after ≡ writes_before
       → Ends status read ended held reads_before reads_after writes_before writes_after
-  unread : status ≡ read_failed → ended ≡ false → length read ≤ most_journal → HoldsNothing held
+  unread : status ≡ read_failed → ended ≡ false → length read ≤ most_journal → IsEmptyWhereTold held
       → Rose reads_before reads_after → writes_after ≡ writes_before
       → Ends status read ended held reads_before reads_after writes_before writes_after
   unwritten : (history : List Entry) → status ≡ write_failed → ended ≡ true → length read ≤ most_journal → IsJournal read history
       → HoldsPart history held → reads_after ≡ reads_before → Rose writes_before writes_after
       → Ends status read ended held reads_before reads_after writes_before writes_after
-  too_long : status ≡ no_journal → most_journal < length read → HoldsNothing held
+  too_long : status ≡ no_journal → most_journal < length read → IsEmptyWhereTold held
       → reads_after ≡ reads_before → writes_after ≡ writes_before
       → Ends status read ended held reads_before reads_after writes_before writes_after
-  none : status ≡ no_journal → ended ≡ true → length read ≤ most_journal → IsNoJournal read → HoldsNothing held
+  none : status ≡ no_journal → ended ≡ true → length read ≤ most_journal → IsNoJournal read → IsEmptyWhereTold held
       → reads_after ≡ reads_before → writes_after ≡ writes_before
       → Ends status read ended held reads_before reads_after writes_before writes_after
   -- want of memory comes before anything is written
-  short : status ≡ memory_short → HoldsNothing held → reads_after ≡ reads_before → writes_after ≡ writes_before
+  short : status ≡ memory_short → IsEmptyWhereTold held → reads_after ≡ reads_before → writes_after ≡ writes_before
       → Ends status read ended held reads_before reads_after writes_before writes_after
 
 -- what is said of one replay, by what its source had and what is left of it

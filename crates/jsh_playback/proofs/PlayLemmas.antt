@@ -1,0 +1,30 @@
+-- A transcript is what stands beside the entries: it goes over them with their replies.
+use Rattle.std.proofs.Common.{◌≡◌, ℕ, zero, suc, ◌+◌, ◌<◌, Bool, true, false, cond, List, [], ◌∷◌, ◌++◌, length, refl, ap, sym, ◌∙◌, add-one}
+use Rattle.std.specs.Prelude.{filter, zip}
+use Rattle.std.specs.List.{flat_map, range_with_len}
+use Rattle.jsh_snippet.specs.declared.acts.Entry.{Entry}
+use Rattle.jsh_snippet.specs.declared.replies.Reply.{Reply}
+use Rattle.jsh_core.specs.State.{State, opening}
+use Rattle.jsh_core.specs.Step.{step}
+use Rattle.jsh_core.specs.History.{replies_after, replies_of}
+use Rattle.jsh_shell.specs.Transcript.{shown_to, transcript, transcript_after}
+use Rattle.jsh_playback.specs.Playing.{shown_beside}
+
+-- what of an entry with its reply a client is written
+abbrev pub beside : ℕ → Entry × Reply → List ℕ
+beside client pair = shown_beside client pair.0 pair.1
+
+transcript_after-beside : (client : ℕ) (s : State) (entries : List Entry) → transcript_after client s entries ≡ flat_map (beside client) (zip entries (replies_after s entries))
+transcript_after-beside client s [] = refl
+transcript_after-beside client s (entry ∷ entries) = ap (λ (more : List ℕ). shown_to client s entry ++ more) (transcript_after-beside client (step s entry).state entries)
+
+pub transcript-beside : (client : ℕ) (history : List Entry) → transcript client history ≡ flat_map (beside client) (zip history (replies_of history))
+transcript-beside client history = transcript_after-beside client opening history
+
+-- each entry has a reply
+replies_after-length : (s : State) (entries : List Entry) → length (replies_after s entries) ≡ length entries
+replies_after-length s [] = refl
+replies_after-length s (entry ∷ entries) = ap suc (replies_after-length (step s entry).state entries)
+
+pub replies-length : (history : List Entry) → length (replies_of history) ≡ length history
+replies-length history = replies_after-length opening history
