@@ -160,3 +160,8 @@ pub fn run_replay<D: Desk>(
     }
 }
 
+
+#[cfg(test)]
+mod long_test;
+#[cfg(test)]
+mod tests;
