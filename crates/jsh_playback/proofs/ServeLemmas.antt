@@ -4,8 +4,7 @@ use Rattle.std.specs.Io.KnownBytes.{append_known, prepend_known}
 use Rattle.jsh_io.specs.Count.{Rose, TakesPart}
 use Rattle.jsh_io.specs.Inputs.{Inputs, bytes_of, IsEmptyWhereTold}
 use Rattle.jsh_snippet.specs.declared.acts.Entry.{Entry}
-use Rattle.jsh_replay.specs.Journal.{IsBadPlace, IsJournal}
-use Rattle.jsh_replay.proofs.OneReading.{not_both}
+use Rattle.jsh_replay.specs.Journal.{IsJournal}
 use Rattle.jsh_shell.specs.Statuses.{all_served, memory_short, read_failed, words_refused, write_failed}
 use Rattle.jsh_playback.specs.declared.halts.Halt.{Halt}
 use Rattle.jsh_playback.specs.declared.halts.Halt.TheVariants as halt
@@ -26,13 +25,13 @@ replays-none why status given left held before after writes empty r is = record 
     by halt.NoJournal is (same, inr no) = none is no.0 no.1 no.2 empty same refl
 
 -- all was read, and it is no journal
-pub replays-bad : (read : List ℕ) (place : ℕ) (given left held : Option (List ℕ)) (before after writes : ℕ) → IsEmptyWhereTold held → ReadsWhole read given left before after → IsBadPlace read place →
+pub replays-bad : (read : List ℕ) (given left held : Option (List ℕ)) (before after writes : ℕ) → IsEmptyWhereTold held → ReadsWhole read given left before after → IsNoJournal read →
     Replays no_journal given left held before after writes writes
-replays-bad read place given left held before after writes empty r bad = record {
+replays-bad read given left held before after writes empty r bad = record {
   read = read;
   ended = true;
   reads = r.reads;
-  ends = none refl refl r.few (λ history is. not_both read history place is bad) empty r.counts refl;
+  ends = none refl refl r.few bad empty r.counts refl;
 }
 
 -- memory was wanting behind the reading

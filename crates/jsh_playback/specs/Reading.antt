@@ -4,6 +4,8 @@ use Rattle.std.specs.List.{list_all}
 use Rattle.std.specs.Io.KnownBytes.{prepend_known}
 use Rattle.jsh_io.specs.Count.{Rose}
 use Rattle.jsh_snippet.specs.declared.acts.Entry.{Entry}
+use Rattle.jsh_replay.specs.declared.journal_error.JournalError.{JournalError}
+use Rattle.jsh_replay.specs.declared.journal_error.JournalError.TheVariants as error
 use Rattle.jsh_replay.specs.Journal.{header, IsJournal}
 use Rattle.jsh_playback.specs.declared.halts.Halt.{Halt}
 use Rattle.jsh_playback.specs.declared.halts.Halt.TheVariants as halt
@@ -29,6 +31,11 @@ may_begin bytes = list_all is_same (zip bytes header)
 -- no history has these bytes as its journal
 abbrev pub IsNoJournal : List ℕ → Type 0
 IsNoJournal bytes = (history : List Entry) → ¬ IsJournal bytes history
+
+-- what a refusal of bytes says of them: no history has them as its journal, unless memory was wanting
+abbrev pub IsRefusal : List ℕ → JournalError → Type 0
+IsRefusal bytes error.NoMemory = Unit {0}
+IsRefusal bytes (error.BadJournal place) = IsNoJournal bytes
 
 -- why nothing is written of what was read, with the counts of faults of the source
 abbrev pub IsCause : Halt → List ℕ → Bool → ℕ → ℕ → Type 0

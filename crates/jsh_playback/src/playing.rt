@@ -3,9 +3,9 @@ ghost use Rattle.std.specs.Prelude.{◌≡◌, ◌++◌, ◌&&◌, ◌==◌, [],
 ghost use Rattle.std.specs.List.{flat_map};
 ghost use Rattle.jsh_core.specs.History.{replies_of};
 ghost use Rattle.jsh_render.specs.Texts.{shown};
-ghost use Rattle.jsh_replay.specs.Faults.{HasCause};
 ghost use Rattle.jsh_shell.specs.Transcript as transcripts;
 ghost use Rattle.jsh_playback.specs.Playing as spec;
+ghost use Rattle.jsh_playback.specs.Reading.{IsRefusal};
 ghost use Rattle.jsh_playback.specs.Replays.{IsPlayed};
 
 use crate::told::told_clients;
@@ -128,7 +128,7 @@ fn played(alloc: Global, history: &[Entry], replies: &[Reply]) -> Result<Vec<u8>
 /// What the replay of a journal writes.
 pub fn play(alloc: Global, journal: &[u8]) -> Result<Vec<u8>, JournalError>
     ensures played { IfOk result (λ bytes. IsPlayed journal.now bytes.items) }
-    ensures cause { IfErr result (λ why. HasCause journal.now why) }
+    ensures refused { IfErr result (λ why. IsRefusal journal.now why) }
 {
     let history = read_journal(alloc, journal)?;
     let replies = replay(alloc, journal)?;

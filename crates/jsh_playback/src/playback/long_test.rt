@@ -33,22 +33,6 @@ struct LongDesk {
     bytes: usize,
 }
 
-impl LongDesk {
-    fn streams(&self, bytes: usize) -> (Repeating, MemorySink) {
-        let source = Repeating {
-            byte: b'j',
-            left: bytes,
-        };
-        let sink = MemorySink::new(
-            Vec::new(self.alloc),
-            4096,
-            Vec::new(self.alloc),
-            Vec::new(self.alloc),
-        );
-        (source, sink)
-    }
-}
-
 impl Desk for LongDesk {
     type In = Repeating;
 
@@ -61,17 +45,26 @@ impl Desk for LongDesk {
     ghost output_faults = { λ _. 0 };
 
     fn standard(&mut self) -> Result<(Repeating, MemorySink), Failed> {
-        Ok(self.streams(0))
+        let alloc = self.alloc;
+        let sink = MemorySink::new(Vec::new(alloc), 4096, Vec::new(alloc), Vec::new(alloc));
+        Ok((Repeating { byte: b'x', left: 0 }, sink))
     }
 
     fn open_in(&mut self, _name: &str) -> Result<Repeating, Failed> {
-        let (source, _sink) = self.streams(self.bytes);
-        Ok(source)
+        Ok(Repeating {
+            byte: b'x',
+            left: self.bytes,
+        })
     }
 
     fn open_out(&mut self, _name: &str) -> Result<MemorySink, Failed> {
-        let (_source, sink) = self.streams(0);
-        Ok(sink)
+        let alloc = self.alloc;
+        Ok(MemorySink::new(
+            Vec::new(alloc),
+            4096,
+            Vec::new(alloc),
+            Vec::new(alloc),
+        ))
     }
 }
 
