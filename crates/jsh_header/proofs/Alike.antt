@@ -15,7 +15,7 @@ use Rattle.jsh_scope.specs.Scope.{Scope}
 use Rattle.jsh_header.specs.declared.outlines.Outline.{Outline}
 use Rattle.jsh_header.specs.declared.rules.Breach.{Breach}
 use Rattle.jsh_header.specs.Outlines.{outlines}
-use Rattle.jsh_header.specs.SuperRules.{direct_at, methods_at, leads_up, above, methods_of, inherited, class_methods, contradicts, contradicts_any, has_contradiction, lacks_body, lacks_body_of, is_library_name, at_name, at_its_name}
+use Rattle.jsh_header.specs.SuperRules.{direct_at, methods_at, leads_up, above, methods_of, inherited, class_methods, contradicts, contradicts_any, has_contradiction, has_abstract, lacks_body_of, is_library_name, at_name, at_its_name}
 use Rattle.jsh_header.specs.Tables.{AreAlike, direct_of}
 
 any_same : {A : Type 0} (p q : A → Bool) → ((x : A) → p x ≡ q x) → (xs : List A) → list_any p xs ≡ list_any q xs
@@ -99,7 +99,7 @@ contradiction_alike own some others alike =
     ∙ alike.passes (λ (method : Signature). contradicts_any own method || contradicts_any others method)
 
 pub lacks_alike : (of_classes own some others : List Signature) → AreAlike some others → lacks_body_of of_classes own some ≡ lacks_body_of of_classes own others
-lacks_alike of_classes own some others alike = ap (λ (b : Bool). lacks_body of_classes own || b) (alike.passes _)
+lacks_alike of_classes own some others alike = ap (λ (b : Bool). has_abstract own || b) (alike.passes _)
 
 -- what is said at a type's name, one rule after another
 pub said_at_name : (scope : Scope) (place : ℕ) (interface is_abstract : Bool) (name : List ℕ) (own some : List Signature) (contradicting may opened hides : Bool) (none fourth fifth sixth : List Breach)

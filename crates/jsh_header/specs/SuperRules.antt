@@ -100,8 +100,13 @@ has_contradiction own others = list_any (λ (method : Signature). contradicts_an
 abbrev pub lacks_body : List Signature → List Signature → Bool
 lacks_body of_classes methods = list_any (λ (method : Signature). method.is_abstract && not (is_implemented of_classes method)) methods
 
+-- some method has no body of its own
+abbrev pub has_abstract : List Signature → Bool
+has_abstract methods = list_any (λ (method : Signature). method.is_abstract) methods
+
+-- it has an abstract method itself, or gets one that has no body in it
 abbrev pub lacks_body_of : List Signature → List Signature → List Signature → Bool
-lacks_body_of of_classes own others = lacks_body of_classes own || lacks_body of_classes others
+lacks_body_of of_classes own others = has_abstract own || lacks_body of_classes others
 
 -- a class that isn't final
 abbrev pub may_be_superclass : Outline → Bool
@@ -171,7 +176,7 @@ module _ (scope : Scope) where
     abbrev pub at_supertypes : List Written → List Breach
     at_supertypes supertypes = flat_map (at_index (first_no_superclass supertypes) (first_no_interface supertypes) (first_back supertypes)) (range_with_len 0 (length supertypes))
 
-    -- some abstract method that the type has or gets has no body in it
+    -- open, by its own methods and all that it gets
     abbrev pub is_open : List Signature → Bool
     is_open methods = lacks_body_of (class_methods (outlines scope) place) methods (inherited (outlines scope) place)
 

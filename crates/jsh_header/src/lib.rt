@@ -21,4 +21,8 @@ pub use rule_diagnostics::diagnostics;
 pub use rules::{Breach, breaches};
 
 #[cfg(test)]
+mod rule_tests;
+#[cfg(test)]
+mod test_rows;
+#[cfg(test)]
 mod tests;

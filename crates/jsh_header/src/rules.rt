@@ -32,7 +32,8 @@ pub struct Breach {
 /// 3. No type is its own supertype (JLS 8.1.4, 9.1.3).
 /// 4. No two methods that it has or gets have one name and the same parameter types but other results
 ///    (JLS 8.4.8.3, 9.4.1.3).
-/// 5. A class that isn't abstract has a body for each method that it has or gets (JLS 8.1.1.1).
+/// 5. A class that isn't abstract has no abstract method, and a body for each one that it gets
+///    (JLS 8.1.1.1, 8.4.3.1).
 /// 6. It doesn't have the name of a type of the library.
 pub fn breaches(
     alloc: Global,

@@ -94,6 +94,12 @@ fn lacks_body(of_classes: &[Method<'_>], methods: &[Method<'_>]) -> bool
         .any(|method| lacks(of_classes, method.signature()))
 }
 
+fn has_abstract(methods: &[Method<'_>]) -> bool
+    ensures { result ≡ spec.has_abstract methods.now }
+{
+    methods.iter().any(|method| method.signature().is_abstract)
+}
+
 pub(crate) fn lacks_body_of(
     of_classes: &[Method<'_>],
     own: &[Method<'_>],
@@ -101,5 +107,5 @@ pub(crate) fn lacks_body_of(
 ) -> bool
     ensures { result ≡ spec.lacks_body_of of_classes.now own.now others.now }
 {
-    lacks_body(of_classes, own) || lacks_body(of_classes, others)
+    has_abstract(own) || lacks_body(of_classes, others)
 }

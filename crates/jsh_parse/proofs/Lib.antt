@@ -20,6 +20,9 @@ pub mod Onward
 pub mod Passing
 pub mod Rooms
 pub mod Turns
+pub mod Shortening
+pub mod RunLemmas
+pub mod RunTurns
 pub mod Pieced
 pub mod LeafOnward
 pub mod LabelOnward

@@ -1,5 +1,5 @@
 -- How the readers go on, step by step, in the words of the parser's contracts.
-use Rattle.std.proofs.Common.{◌≡◌, ℕ, zero, suc, ◌+◌, ◌-◌, ◌≤◌, ◌==◌, Bool, true, false, not, ◌&&◌, if◌then◌else◌, List, [], ◌∷◌, ◌++◌, Option, Some, None, length, drop, refl, sym, ap, ◌∙◌, subst, arith, add-zero, add-suc, append_assoc}
+use Rattle.std.proofs.Common.{◌≡◌, ℕ, zero, suc, ◌+◌, ◌-◌, ◌==◌, Bool, true, false, not, ◌&&◌, if◌then◌else◌, List, [], ◌∷◌, ◌++◌, Option, Some, None, length, drop, refl, sym, ap, ◌∙◌, append_assoc}
 use Rattle.jsh_tree.specs.declared.token.Token.{Token}
 use Rattle.jsh_tree.specs.declared.expression.BinaryOperator.{BinaryOperator}
 use Rattle.jsh_tree.specs.declared.expression.UnaryOperator.{UnaryOperator}
@@ -165,16 +165,6 @@ pub level_suc : (text : List ℕ) (room height : ℕ) (ts : List Token) →
 unfolding level_at level_read operations_at
 level_suc text room height ts = refl
 
-level_stays_out : (text : List ℕ) (room : ℕ) (ts : List Token) (low more : ℕ) → level_at text room low ts ≡ None → level_at text room (low + more) ts ≡ None
-level_stays_out text room ts low zero h = rw add-zero h
-level_stays_out text room ts low (suc more) h = rw (add-suc, level_suc text room (low + more) ts, level_stays_out text room ts low more h) refl
-
--- where a level isn't read, no level above it is
-pub level_fails : (text : List ℕ) (room : ℕ) (ts : List Token) (low height : ℕ) → low ≤ height → level_at text room low ts ≡ None → level_at text room height ts ≡ None
-level_fails text room ts low height l h =
-    let whole : low + (height - low) ≡ height = omega arith in
-    subst (λ n. level_at text room n ts ≡ None) whole (level_stays_out text room ts low (height - low) h)
-
 -- runs of items
 
 -- an item, with those that come behind it
@@ -221,11 +211,6 @@ same None f g h = refl
 same (Some found) f g h = h found.0 found.1
 
 -- operations
-
-pub operations_by : (text : List ℕ) (room height : ℕ) (ts : List Token) →
-    operations_at text room height ts ≡ prepend [] (operations (suc (length ts)) text (9 - height) (level_at text room height) ts)
-unfolding operations_at
-operations_by text room height ts = sym (prepend_none (operations (suc (length ts)) text (9 - height) (level_at text room height) ts))
 
 pub operations_more : (text : List ℕ) (room height most : ℕ) (ts : List Token) →
     operations (suc most) text (9 - height) (level_at text room height) ts
@@ -691,10 +676,6 @@ module _ (text : List ℕ) (r : ℕ) where
   initial_value t ts h = rw (h, inner_expr text r (t ∷ ts))
 
 -- where no item more may come
-
-pub operations_zero : (text : List ℕ) (level : ℕ) (operand : List Token → Read Expr) (ts : List Token) → operations zero text level operand ts ≡ None
-unfolding operations
-operations_zero text level operand ts = refl
 
 pub parts_zero : (text : List ℕ) (room : ℕ) (ts : List Token) → parts zero text (below text room) ts ≡ None
 unfolding parts

@@ -11,7 +11,7 @@ use Rattle.jsh_parse.specs.Leaves.{is_target}
 use Rattle.jsh_parse.specs.Marks.{is_left_paren, is_right_paren, is_left_bracket, is_left_brace, is_right_brace, is_dot, is_colon}
 use Rattle.jsh_parse.specs.Reader as reader
 use Rattle.jsh_parse.specs.Reader.{Read, and_then, accept, sees, sees_brackets, type_read}
-use Rattle.jsh_parse.specs.Reading.{expr_at, conditional_at, level_at, unary_at, arguments_at, braces_at, bracketed_at, listed_at, initials_at, part_at, size_at, operations_at, assignment_at, branches_at, cast_at, enclosed_at, applied}
+use Rattle.jsh_parse.specs.Reading.{expr_at, conditional_at, unary_at, arguments_at, braces_at, bracketed_at, listed_at, initials_at, part_at, size_at, assignment_at, branches_at, cast_at, enclosed_at, applied}
 use Rattle.jsh_parse.proofs.Onward as onward
 
 module _ (text : List ℕ) (room : ℕ) (ts : List Token) where
@@ -33,13 +33,6 @@ module _ (text : List ℕ) (room : ℕ) (ts : List Token) where
   pub branches_by : (r : ℕ) → room ≡ suc r → branches_at text room ts ≡ and_then (expr_at text r ts) (λ first rest. and_then (accept is_colon rest)
       (λ u behind. and_then (conditional_at text r behind) (λ second end. Some ((first, second), end))))
   branches_by r z = ap (λ n. branches_at text n ts) z ∙ onward.branches_by text r ts
-
-  pub level_zero : (height : ℕ) → height ≡ zero → level_at text room height ts ≡ unary_at text room ts
-  level_zero height z = ap (λ n. level_at text room n ts) z ∙ onward.level_zero text room ts
-
-  pub level_suc : (height h : ℕ) → height ≡ suc h → level_at text room height ts ≡ and_then (level_at text room h ts) (λ first rest.
-      and_then (operations_at text room h rest) (λ os behind. Some (reader.with_operations first os, behind)))
-  level_suc height h z = ap (λ n. level_at text room n ts) z ∙ onward.level_suc text room h ts
 
   pub arguments_flat : (t : Token) (rest : List Token) → room ≡ zero → accept is_left_paren ts ≡ Some (t, rest) → arguments_at text room ts ≡ None
   arguments_flat t rest z h = ap (λ n. arguments_at text n ts) z ∙ onward.arguments_flat text ts t rest h

@@ -6,6 +6,7 @@ pub mod Statements
 pub mod Forms
 pub mod Reader
 pub mod Reading
+pub mod Runs
 pub mod StatementReader
 pub mod StatementReading
 pub mod Refusals

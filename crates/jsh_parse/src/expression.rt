@@ -6,15 +6,14 @@ ghost use Rattle.jsh_parse.specs.Reading as read;
 ghost use Rattle.jsh_parse.specs.Reading.{Reads};
 
 use crate::error::ParseError;
-use crate::input::{Input, assignment_at, colon, deeper, operator_at, right_paren, sees_question};
+use crate::input::{Input, assignment_at, colon, deeper, right_paren, sees_question};
 use crate::leaves::{is_cast, is_step, is_target, type_use};
 use crate::marks::is_left_paren;
-use crate::nodes::{
-    add, assignment, choice, conversion, instance_of, joined, prefixed, stepped, with_operations,
-};
+use crate::nodes::{assignment, choice, conversion, prefixed, stepped};
 use crate::operators::{LEVELS, postfix_operator, unary_operator};
 use crate::path::path;
-use jsh_tree::{Boxed, Expr, Operation, Seq, Token, UnaryOperator};
+use crate::runs::{Next, settle};
+use jsh_tree::{Boxed, Expr, Token, UnaryOperator};
 
 #[cycle(parser)]
 pub fn expr(input: &Input, at: usize, room: u32) -> Result<(Boxed<Expr>, usize), ParseError>
@@ -72,69 +71,20 @@ pub fn level(
     requires { height ≤ 10 }
     ensures { Reads input.now.tokens.now at (read.level_at input.now.text.now room height (drop at input.now.tokens.now)) result }
 {
-    let (mut tree, mut end) = unary(input, at, room)?;
-    for lower in 0..height {
-        let (rest, behind) = operations(input, end, room, lower)?;
-        tree = with_operations(input.alloc, tree, rest)?;
-        end = behind;
+    let mut waiting = Vec::new(input.alloc);
+    let mut place = at;
+    let mut wanted = height;
+    'operands: loop {
+        let (operand, behind) = unary(input, place, room)?;
+        let next = settle(input, &mut waiting, operand, behind, wanted)?;
+        match next {
+            Next::Whole(tree, end) => return Ok((tree, end)),
+            Next::Operand(further, lower) => {
+                place = further;
+                wanted = lower;
+            }
+        }
     }
-    Ok((tree, end))
-}
-
-/// The operators between operands that are so many levels below those of all levels, with their right
-/// operands.
-#[cycle(parser)]
-fn operations(
-    input: &Input,
-    from: usize,
-    room: u32,
-    height: u32,
-) -> Result<(Seq<Operation>, usize), ParseError>
-    requires { height < 10 }
-    ensures { Reads input.now.tokens.now from (read.operations_at input.now.text.now room height (drop from input.now.tokens.now)) result }
-{
-    let mut rest = Vec::new(input.alloc);
-    let mut at = from;
-    let most = input.left(from) + 1;
-    for _turn in 0..most {
-        let (further, behind) = operation(input, at, room, height)?;
-        at = behind;
-        let Some(further) = further else {
-            return Ok((Seq::from_vec(rest), at));
-        };
-        add(&mut rest, further)?;
-    }
-    Err(input.refuse(at, None))
-}
-
-/// One such operator with its right operand, where it stands there.
-#[cycle(parser)]
-fn operation(
-    input: &Input,
-    at: usize,
-    room: u32,
-    height: u32,
-) -> Result<(Option<Boxed<Operation>>, usize), ParseError>
-    requires { height < 10 }
-    ensures { Reads input.now.tokens.now at (read.operation_at input.now.text.now room height (drop at input.now.tokens.now)) result }
-{
-    let Some(found) = operator_at(input, at, height) else {
-        return Ok((None, at));
-    };
-    let Some(operator) = found else {
-        return tested(input, at + 1);
-    };
-    let (operand, end) = level(input, at + 1, room, height)?;
-    Ok((Some(joined(input.alloc, operator, operand)?), end))
-}
-
-/// What the value so far may be an instance of, from behind the word.
-#[inline(never)]
-fn tested(input: &Input, at: usize) -> Result<(Option<Boxed<Operation>>, usize), ParseError>
-    ensures { Reads input.now.tokens.now at (read.tested input.now.text.now (drop at input.now.tokens.now)) result }
-{
-    let (target, end) = type_use(input, at)?;
-    Ok((Some(instance_of(input.alloc, target)?), end))
 }
 
 #[cycle(parser)]

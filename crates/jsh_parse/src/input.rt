@@ -154,12 +154,11 @@ pub fn assignment_at(input: &Input, at: usize) -> Option<Option<BinaryOperator>>
 /// The operator that the token at a place is, where it stands between operands of that height: `None`
 /// for `instanceof`.
 pub fn operator_at(input: &Input, at: usize, height: u32) -> Option<Option<BinaryOperator>>
-    requires { height < 10 }
     ensures value { result ≡ read.operator_at height (drop at input.now.tokens.now) }
     ensures inside { OnSome result (at < length input.now.tokens.now) }
 {
     let token = input.token(at)?;
-    let level = LEVELS - 1 - height;
+    let level = (LEVELS - 1).saturating_sub(height);
     if is_instanceof(token.kind) && level == COMPARISON_LEVEL {
         return Some(None);
     }

@@ -27,6 +27,7 @@ mod nodes;
 mod operators;
 mod path;
 mod refusals;
+mod runs;
 mod simple;
 mod statement;
 mod statement_nodes;

@@ -1,5 +1,5 @@
 -- Acts and entries: what is read was written, and what is written is read again.
-use Rattle.std.proofs.Common.{◌≡◌, ℕ, suc, ◌^◌, ◌<◌, ◌==◌, Bool, true, false, cond, eqb, List, [], ◌∷◌, ◌++◌, Option, Some, None, refl, sym, ap, subst, ◌∙◌, append_assoc, arith, inl, inr}
+use Rattle.std.proofs.Common.{◌≡◌, ℕ, suc, ◌^◌, ◌==◌, Bool, true, false, cond, List, [], ◌∷◌, ◌++◌, Option, Some, None, refl, sym, ap, subst, ◌∙◌, append_assoc, inl, inr}
 use Rattle.std.specs.Int.{w16, w32, w64, to_be_bytes}
 use Rattle.std.proofs.lemmas.Bool.{eqb-true}
 use Rattle.std.proofs.lemmas.Option.{same_Some}
@@ -10,7 +10,7 @@ use Rattle.jsh_snippet.specs.declared.acts.Question.{Question}
 use Rattle.jsh_snippet.specs.declared.acts.Question.TheVariants as question
 use Rattle.jsh_snippet.specs.declared.acts.Target.{Target}
 use Rattle.jsh_snippet.specs.declared.acts.Target.TheVariants as target
-use Rattle.jsh_replay.specs.Journal.{text_bytes, target_bytes, question_bytes, tag, field_bytes, entry_bytes, IsText, IsTargetField, IsQuestionField, FitsFields, IsWritable}
+use Rattle.jsh_replay.specs.Journal.{text_bytes, target_bytes, question_bytes, tag, field_bytes, entry_bytes, IsTargetField, IsQuestionField, FitsFields, IsWritable}
 use Rattle.jsh_replay.specs.Reading.{◌>>=◌, number_at, text_at, target_by, target_at, plain_question, question_by, question_at, submit_at, turn_at, collect_at, expire_at, stop_at, drop_at, ask_at, act_by, entry_at}
 use Rattle.jsh_replay.proofs.FieldLaws.{IsBytes, IsBytes-rest, bind_some, chosen, Takes, Takes-then, Takes-one, wide16, wide32, wide64, number_takes, number_again, text_takes, text_again}
 
@@ -74,27 +74,27 @@ plain_is kind what e =
     elim (chosen (kind == 0) _ _ _ e) [
       | inl h ↦ one 0 question.List h.0 refl tt h.1
       | inr h ↦ elim (chosen (kind == 1) _ _ _ h.1) [
-          | inl h ↦ one 1 question.ListAll h.0 refl tt h.1
-          | inr h ↦ elim (chosen (kind == 2) _ _ _ h.1) [
-              | inl h ↦ one 2 question.Vars h.0 refl tt h.1
-              | inr h ↦ elim (chosen (kind == 3) _ _ _ h.1) [
-                  | inl h ↦ one 3 question.Methods h.0 refl tt h.1
-                  | inr h ↦ elim (chosen (kind == 4) _ _ _ h.1) [
-                      | inl h ↦ one 4 question.Types h.0 refl tt h.1
-                      | inr h ↦ elim (chosen (kind == 5) _ _ _ h.1) [
-                          | inl h ↦ one 5 question.Imports h.0 refl tt h.1
-                          | inr h ↦ elim (chosen (kind == 6) _ _ _ h.1) [
-                              | inl h ↦ one 6 question.Threads h.0 refl tt h.1
-                              | inr h ↦ elim (chosen (kind == 7) _ _ _ h.1) [
-                                  | inl h ↦ one 7 question.Help h.0 refl tt h.1
-                                  | inr h ↦ absurd cc
-                                ]
-                            ]
-                        ]
-                    ]
+        | inl h ↦ one 1 question.ListAll h.0 refl tt h.1
+        | inr h ↦ elim (chosen (kind == 2) _ _ _ h.1) [
+          | inl h ↦ one 2 question.Vars h.0 refl tt h.1
+          | inr h ↦ elim (chosen (kind == 3) _ _ _ h.1) [
+            | inl h ↦ one 3 question.Methods h.0 refl tt h.1
+            | inr h ↦ elim (chosen (kind == 4) _ _ _ h.1) [
+              | inl h ↦ one 4 question.Types h.0 refl tt h.1
+              | inr h ↦ elim (chosen (kind == 5) _ _ _ h.1) [
+                | inl h ↦ one 5 question.Imports h.0 refl tt h.1
+                | inr h ↦ elim (chosen (kind == 6) _ _ _ h.1) [
+                  | inl h ↦ one 6 question.Threads h.0 refl tt h.1
+                  | inr h ↦ elim (chosen (kind == 7) _ _ _ h.1) [
+                    | inl h ↦ one 7 question.Help h.0 refl tt h.1
+                    | inr h ↦ absurd cc
+                  ]
                 ]
+              ]
             ]
+          ]
         ]
+      ]
     ]
   where
     one : (k : ℕ) (q : Question) → (kind == k) ≡ true → question_bytes q ≡ k ∷ [] → IsQuestionField q → Some q ≡ Some what → IsPlain kind what
@@ -213,36 +213,36 @@ act_takes kind bytes x fits e =
     elim (chosen (kind == 1) _ _ _ e) [
       | inl h ↦ bare 1 act.Enter h.0 refl tt refl h.1
       | inr h ↦ elim (chosen (kind == 2) _ _ _ h.1) [
-          | inl h ↦ tagged 2 h.0 (submit_takes bytes x fits h.1)
-          | inr h ↦ elim (chosen (kind == 3) _ _ _ h.1) [
-              | inl h ↦ tagged 3 h.0 (turn_takes bytes x fits h.1)
-              | inr h ↦ elim (chosen (kind == 4) _ _ _ h.1) [
-                  | inl h ↦ tagged 4 h.0 (collect_takes bytes x fits h.1)
-                  | inr h ↦ elim (chosen (kind == 5) _ _ _ h.1) [
-                      | inl h ↦ tagged 5 h.0 (expire_takes bytes x fits h.1)
-                      | inr h ↦ elim (chosen (kind == 6) _ _ _ h.1) [
-                          | inl h ↦ tagged 6 h.0 (stop_takes bytes x fits h.1)
-                          | inr h ↦ elim (chosen (kind == 7) _ _ _ h.1) [
-                              | inl h ↦ tagged 7 h.0 (drop_takes bytes x fits h.1)
-                              | inr h ↦ elim (chosen (kind == 8) _ _ _ h.1) [
-                                  | inl h ↦ tagged 8 h.0 (ask_takes bytes x fits h.1)
-                                  | inr h ↦ elim (chosen (kind == 9) _ _ _ h.1) [
-                                      | inl h ↦ bare 9 act.Reset h.0 refl tt refl h.1
-                                      | inr h ↦ elim (chosen (kind == 10) _ _ _ h.1) [
-                                          | inl h ↦ bare 10 act.Leave h.0 refl tt refl h.1
-                                          | inr h ↦ elim (chosen (kind == 11) _ _ _ h.1) [
-                                              | inl h ↦ bare 11 act.Close h.0 refl tt refl h.1
-                                              | inr h ↦ absurd cc
-                                            ]
-                                        ]
-                                    ]
-                                ]
-                            ]
+        | inl h ↦ tagged 2 h.0 (submit_takes bytes x fits h.1)
+        | inr h ↦ elim (chosen (kind == 3) _ _ _ h.1) [
+          | inl h ↦ tagged 3 h.0 (turn_takes bytes x fits h.1)
+          | inr h ↦ elim (chosen (kind == 4) _ _ _ h.1) [
+            | inl h ↦ tagged 4 h.0 (collect_takes bytes x fits h.1)
+            | inr h ↦ elim (chosen (kind == 5) _ _ _ h.1) [
+              | inl h ↦ tagged 5 h.0 (expire_takes bytes x fits h.1)
+              | inr h ↦ elim (chosen (kind == 6) _ _ _ h.1) [
+                | inl h ↦ tagged 6 h.0 (stop_takes bytes x fits h.1)
+                | inr h ↦ elim (chosen (kind == 7) _ _ _ h.1) [
+                  | inl h ↦ tagged 7 h.0 (drop_takes bytes x fits h.1)
+                  | inr h ↦ elim (chosen (kind == 8) _ _ _ h.1) [
+                    | inl h ↦ tagged 8 h.0 (ask_takes bytes x fits h.1)
+                    | inr h ↦ elim (chosen (kind == 9) _ _ _ h.1) [
+                      | inl h ↦ bare 9 act.Reset h.0 refl tt refl h.1
+                      | inr h ↦ elim (chosen (kind == 10) _ _ _ h.1) [
+                        | inl h ↦ bare 10 act.Leave h.0 refl tt refl h.1
+                        | inr h ↦ elim (chosen (kind == 11) _ _ _ h.1) [
+                          | inl h ↦ bare 11 act.Close h.0 refl tt refl h.1
+                          | inr h ↦ absurd cc
                         ]
+                      ]
                     ]
+                  ]
                 ]
+              ]
             ]
+          ]
         ]
+      ]
     ]
   where
     tagged : (k : ℕ) → (kind == k) ≡ true → IsActAt k bytes x → IsActAt kind bytes x
@@ -291,9 +291,9 @@ entry_takes (kind ∷ client ∷ bytes) x fits e =
     let is : IsActAt kind bytes s.0 = act_takes kind bytes s.0 rest_fits s.1 in
     let made : Entry = record { client = client; act = s.0.0 } in
     let here : Takes (kind ∷ client ∷ bytes) (kind ∷ client ∷ field_bytes s.0.0) s.0.1 =
-        Takes-one kind (client ∷ bytes) (client ∷ field_bytes s.0.0) s.0.1 (Takes-one client bytes (field_bytes s.0.0) s.0.1 is.takes) in
+    Takes-one kind (client ∷ bytes) (client ∷ field_bytes s.0.0) s.0.1 (Takes-one client bytes (field_bytes s.0.0) s.0.1 is.takes) in
     let whole : Takes (kind ∷ client ∷ bytes) (tag s.0.0 ∷ client ∷ field_bytes s.0.0) s.0.1 =
-        subst (λ (k : ℕ). Takes (kind ∷ client ∷ bytes) (k ∷ client ∷ field_bytes s.0.0) s.0.1) is.kind_is here in
+    subst (λ (k : ℕ). Takes (kind ∷ client ∷ bytes) (k ∷ client ∷ field_bytes s.0.0) s.0.1) is.kind_is here in
     subst (λ (y : Entry × List ℕ). Takes (kind ∷ client ∷ bytes) (entry_bytes y.0) y.1 × IsWritable y.0) (same_Some (made, s.0.1) x s.2)
     (whole, record { client = fits 1; fields = is.fits })
 

@@ -1,5 +1,5 @@
 -- The end mark: what is read was written, and what is written is read again.
-use Rattle.std.proofs.Common.{◌≡◌, ℕ, ◌^◌, ◌<◌, ◌==◌, Bool, true, false, cond, List, [], ◌∷◌, ◌++◌, Option, None, Some, refl, ap, sym, subst, ◌∙◌, arith}
+use Rattle.std.proofs.Common.{◌≡◌, ℕ, ◌^◌, ◌<◌, ◌==◌, Bool, true, false, cond, List, [], ◌∷◌, ◌++◌, Option, None, Some, refl, ap, sym, subst, ◌∙◌}
 use Rattle.std.specs.Int.{w32, to_be_bytes}
 use Rattle.std.proofs.lemmas.Bool.{eq-eqb, eqb-true}
 use Rattle.std.proofs.lemmas.Option.{cond_some}
@@ -8,7 +8,6 @@ use Rattle.jsh_replay.proofs.FieldLaws.{IsBytes, IsBytes-rest, bind_some, Takes,
 
 abbrev pub mark : ℕ → List ℕ
 mark count = 255 ∷ to_be_bytes w32 count
-
 
 pub end-takes : (count : ℕ) (bytes more : List ℕ) → IsBytes bytes → behind_end count bytes ≡ Some more → Takes bytes (mark count) more
 unfolding behind_end

@@ -96,7 +96,7 @@ number_takes w limit wide bytes x fits e =
     let long : byte_len w ≤ length bytes = ltb-false _ _ g.0 in
     let front : to_be_bytes w (from_be_bytes w (take (byte_len w) bytes)) ≡ take (byte_len w) bytes = wide.back (take (byte_len w) bytes) (omega (arith, length-take (byte_len w) bytes)) (IsBytes-take (byte_len w) bytes fits) in
     let made : Takes bytes (to_be_bytes w (from_be_bytes w (take (byte_len w) bytes))) (drop (byte_len w) bytes) =
-        record { parts = rw front (sym (take-append-drop (byte_len w) bytes)); rest_fits = IsBytes-drop (byte_len w) bytes fits } in
+    record { parts = rw front (sym (take-append-drop (byte_len w) bytes)); rest_fits = IsBytes-drop (byte_len w) bytes fits } in
     subst (λ (y : ℕ × List ℕ). Takes bytes (to_be_bytes w y.0) y.1 × (y.0 < limit)) g.1 (made, wide.below (take (byte_len w) bytes) (IsBytes-take (byte_len w) bytes fits))
 
 pub number_again : (w : Width) (limit : ℕ) (wide : IsWide w limit) (n : ℕ) (rest : List ℕ) → n < limit → number_at w (to_be_bytes w n ++ rest) ≡ Some (n, rest)
@@ -144,9 +144,10 @@ text_takes bytes x fits e =
     let second : Takes n.1 (take n.0 n.1) (drop n.0 n.1) = record { parts = sym (take-append-drop n.0 n.1); rest_fits = IsBytes-drop n.0 n.1 t.0.rest_fits } in
     let both : Takes bytes (to_be_bytes w32 n.0 ++ take n.0 n.1) (drop n.0 n.1) = Takes-then bytes (to_be_bytes w32 n.0) n.1 (take n.0 n.1) (drop n.0 n.1) t.0 second in
     let whole : Takes bytes (to_be_bytes w32 (length (take n.0 n.1)) ++ take n.0 n.1) (drop n.0 n.1) = subst (λ (k : ℕ). Takes bytes (to_be_bytes w32 k ++ take n.0 n.1) (drop n.0 n.1)) (sym len) both in
-    let first : Takes bytes (to_be_bytes w32 (length x.0) ++ x.0) (drop n.0 n.1) = subst (λ (p : List ℕ). Takes bytes (to_be_bytes w32 (length p) ++ p) (drop n.0 n.1)) (sym is.text) whole in
-    (subst (λ (q : List ℕ). Takes bytes (to_be_bytes w32 (length x.0) ++ x.0) q) (sym is.rest) first,
-    (subst IsUtf8 (sym is.text) (IsUtf8-from_is_utf8 (take n.0 n.1) is.utf8), omega (arith, ap length is.text, len, is.few)))
+    let first : Takes bytes (to_be_bytes w32 (length x.0) ++ x.0) (drop n.0 n.1) = subst (λ (p : List ℕ). Takes bytes (to_be_bytes w32 (length p) ++ p) (drop n.0 n.1)) (sym is.text) whole in (
+      subst (λ (q : List ℕ). Takes bytes (to_be_bytes w32 (length x.0) ++ x.0) q) (sym is.rest) first,
+      (subst IsUtf8 (sym is.text) (IsUtf8-from_is_utf8 (take n.0 n.1) is.utf8), omega (arith, ap length is.text, len, is.few)),
+    )
 
 -- a text that is there is read
 pub text_of-given : (len : ℕ) (bytes text rest : List ℕ) → len ≤ 65536 → len ≤ length bytes → text ≡ take len bytes → rest ≡ drop len bytes → IsUtf8 (take len bytes) → text_of len bytes ≡ Some (text, rest)

@@ -1,5 +1,5 @@
 -- What a legal history has room for.
-use Rattle.std.proofs.Common.{◌≡◌, ℕ, zero, suc, ◌+◌, ◌^◌, ◌<◌, ◌≤◌, Bool, true, false, cond, List, [], ◌∷◌, ◌++◌, Some, length, set, get_or, take, refl, ap, sym, subst, ◌∙◌, append_assoc, append-nil, length-append, arith}
+use Rattle.std.proofs.Common.{◌≡◌, ℕ, zero, suc, ◌+◌, ◌^◌, ◌<◌, ◌≤◌, Bool, true, false, cond, List, [], ◌∷◌, ◌++◌, length, set, get_or, take, refl, ap, sym, subst, ◌∙◌, append_assoc, append-nil, length-append, arith}
 use Rattle.std.specs.Prelude.{◌||◌, nat_le}
 use Rattle.std.specs.List.{AllByRecursion}
 use Rattle.std.proofs.Math.ListN.{length-set}
@@ -62,7 +62,7 @@ roomy-bounded history entry room =
     let longer : length (history ++ entry ∷ []) ≡ length history + 1 = length-append history (entry ∷ []) in
     let few : length (state_of (history ++ entry ∷ [])).clients ≤ 64 = clients-few (history ++ entry ∷ []) in
     let there : present_count (state_of (history ++ entry ∷ [])).clients ≤ length (state_of (history ++ entry ∷ [])).clients =
-        count_by-le-length (λ (b : Bool). b) (state_of (history ++ entry ∷ [])).clients in
+    count_by-le-length (λ (b : Bool). b) (state_of (history ++ entry ∷ [])).clients in
     record { leaves = λ still. omega (arith, longer, few, there, room); few = omega (arith, longer, room) }
 
 left-bounded : (history : List Entry) (client : ℕ) → IsBounded history → Allows history (record { client = client; act = act.Leave }) → IsBounded (history ++ record { client = client; act = act.Leave } ∷ [])
@@ -71,7 +71,7 @@ left-bounded history client bounded allowed =
     let entry : Entry = record { client = client; act = act.Leave } in
     let longer : length (history ++ entry ∷ []) ≡ length history + 1 = length-append history (entry ∷ []) in
     let clients : (state_of (history ++ entry ∷ [])).clients ≡ set (state_of history).clients client false =
-        ap (λ (s : State). s.clients) (state_of-push history entry) ∙ step-clients (state_of history) entry in
+    ap (λ (s : State). s.clients) (state_of-push history entry) ∙ step-clients (state_of history) entry in
     let fewer : present_count (set (state_of history).clients client false) + 1 ≡ present_count (state_of history).clients =
     count_by-set_fewer (λ (there : Bool). there) (state_of history).clients client true false allowed.present refl refl in
     let before : length history + present_count (state_of history).clients ≤ 4194368 = bounded.leaves allowed.open in
@@ -123,8 +123,8 @@ allowed_after past (entry ∷ entries) (suc i) d legal lt =
     (allowed_after (past ++ entry ∷ []) entries i d legal.1 (omega arith))
 
 -- each entry of a legal history is allowed by those before it
-pub legal-at : (history : List Entry) (i : ℕ) (d : Entry) → IsLegal history → i < length history → Allows (take i history) (get_or history i d)
-legal-at history i d legal lt = allowed_after [] history i d legal lt
+pub item-allowed : (history : List Entry) (i : ℕ) (entry : Entry) → IsLegal history → i < length history → entry ≡ get_or history i entry → Allows (take i history) entry
+item-allowed history i entry legal lt is = subst (λ (e : Entry). Allows (take i history) e) (sym is) (allowed_after [] history i entry legal lt)
 
 pub allowed-client : (history : List Entry) (entry : Entry) → Allows history entry → entry.client < 2 ^ 8
 allowed-client history entry allowed =

@@ -6,3 +6,5 @@ pub mod LegalLaws
 pub mod OneReading
 pub mod ReplayLaws
 pub mod AnswerLaws
+pub mod WritingLaws
+pub mod ReadingLaws

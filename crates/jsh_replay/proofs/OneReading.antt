@@ -1,5 +1,5 @@
 -- Bytes are the journal of one history, or have one bad place.
-use Rattle.std.proofs.Common.{◌≡◌, ◌⊎◌, inl, inr, ℕ, zero, suc, ◌+◌, ◌-◌, ◌<◌, ◌≤◌, Bool, true, false, eqb, List, [], ◌∷◌, ◌++◌, Option, None, Some, length, take, drop, refl, ap, sym, subst, ◌∙◌, append_assoc, append-nil, length-append, arith}
+use Rattle.std.proofs.Common.{◌≡◌, ◌⊎◌, inl, inr, ℕ, zero, suc, ◌-◌, ◌<◌, ◌≤◌, Bool, true, false, eqb, List, [], ◌∷◌, ◌++◌, Option, None, Some, length, take, drop, refl, ap, sym, subst, ◌∙◌, append_assoc, append-nil, length-append, arith}
 use Rattle.std.specs.List.{flat_map, AllByRecursion}
 use Rattle.std.specs.Cmp.Lexicographic.{pointwise}
 use Rattle.std.proofs.lemmas.Bool.{both_ways}
@@ -10,16 +10,15 @@ use Rattle.std.proofs.lemmas.Slice.Eq.{starts_is}
 use Rattle.jsh_snippet.specs.declared.acts.Act.{Act}
 use Rattle.jsh_snippet.specs.declared.acts.Act.TheVariants as act
 use Rattle.jsh_snippet.specs.declared.acts.Entry.{Entry}
-use Rattle.jsh_core.specs.History.{Allows, IsLegal, IsLegalAfter}
+use Rattle.jsh_core.specs.History.{Allows, IsLegalAfter}
 use Rattle.jsh_replay.specs.Journal.{BeginsWith, BeginsWithEntry, IsBadPlace, IsJournal, IsNext, IsWritable, IsWritten, end_bytes, entry_bytes, field_bytes, front_bytes, header, journal_bytes, tag}
 use Rattle.jsh_replay.specs.Journal.{no_header, no_item, too_long}
 use Rattle.jsh_replay.specs.Reading.{behind_end, entry_at}
-use Rattle.jsh_replay.specs.Standing.{may_come, standing}
 use Rattle.jsh_replay.proofs.ActLaws.{entry_again, entry_takes}
 use Rattle.jsh_replay.proofs.EndLaws.{end-again, end-takes}
 use Rattle.jsh_replay.proofs.FieldLaws.{IsBytes, IsBytes-all, IsBytes-drop, Takes}
 use Rattle.jsh_replay.proofs.LegalLaws.{legal-few, written-push}
-use Rattle.jsh_replay.proofs.StandingLaws.{allowed-comes, comes-allowed}
+use Rattle.jsh_replay.proofs.StandingLaws.{allows_or_not, Decided}
 
 -- ---- what stands behind some entries
 
@@ -81,8 +80,8 @@ same_entries past [] (b ∷ others) r s legal fits legal' fits' e stuck stuck' =
 same_entries past (a ∷ more) [] r s legal fits legal' fits' e stuck stuck' = absurd (stuck' (goes-on past a more s r legal.0 fits.0 (sym e)))
 same_entries past (a ∷ more) (b ∷ others) r s legal fits legal' fits' e stuck stuck' =
     let heads : ◌≡◌ {A = Entry × List ℕ} (a, flat_map entry_bytes more ++ r) (b, flat_map entry_bytes others ++ s) =
-        same_entry a b (flat_map entry_bytes more ++ r) (flat_map entry_bytes others ++ s) fits.0 fits'.0
-        (sym (append_assoc (entry_bytes a) (flat_map entry_bytes more) r) ∙ e ∙ append_assoc (entry_bytes b) (flat_map entry_bytes others) s) in
+    same_entry a b (flat_map entry_bytes more ++ r) (flat_map entry_bytes others ++ s) fits.0 fits'.0
+    (sym (append_assoc (entry_bytes a) (flat_map entry_bytes more) r) ∙ e ∙ append_assoc (entry_bytes b) (flat_map entry_bytes others) s) in
     let first : a ≡ b = ap (λ (x : Entry × List ℕ). x.0) heads in
     let later : IsLegalAfter (past ++ a ∷ []) others = subst (λ (x : Entry). IsLegalAfter (past ++ x ∷ []) others) (sym first) legal'.1 in
     let still : ¬ BeginsWithEntry ((past ++ a ∷ []) ++ more) r = subst (λ (h : List Entry). ¬ BeginsWithEntry h r) (sym (append_assoc past (a ∷ []) more)) stuck in
@@ -176,11 +175,11 @@ not_both bytes history place is (no_header none at) =
     none (front-headed bytes history (end_bytes history) stuck.front)
 not_both bytes history place is (no_item other rest written parts stuck no_end at) =
     let same : AreSame history other (end_bytes history) rest =
-        one_stop bytes history other (end_bytes history) rest (journal-stuck bytes history is) (record { front = record { written = written; parts = parts }; stuck = stuck }) in
+    one_stop bytes history other (end_bytes history) rest (journal-stuck bytes history is) (record { front = record { written = written; parts = parts }; stuck = stuck }) in
     no_end ([], sym same.rests ∙ ap end_bytes same.entries ∙ sym (append-nil (end_bytes other)))
 not_both bytes history place is (too_long other byte rest written parts at) =
     let same : AreSame history other (end_bytes history) (end_bytes other ++ byte ∷ rest) =
-        one_stop bytes history other (end_bytes history) (end_bytes other ++ byte ∷ rest) (journal-stuck bytes history is) (long-stuck bytes other byte rest written parts) in
+    one_stop bytes history other (end_bytes history) (end_bytes other ++ byte ∷ rest) (journal-stuck bytes history is) (long-stuck bytes other byte rest written parts) in
     not_longer history other byte rest same.rests
 
 -- a place other than the header's
@@ -247,7 +246,7 @@ bad-item bytes history rest place front stuck none at =
     let lengths : length bytes ≡ length (front_bytes history ++ rest) = ap length front.parts in
     no_item history rest front.written front.parts stuck (no-end history rest front.written none) (omega (arith, lengths, at, length-append (front_bytes history) rest))
 
-ends-parts : (bytes : List ℕ) (history : List Entry) (rest more : List ℕ) → IsFront bytes history rest → IsBytes rest → behind_end (length history) rest ≡ Some more → bytes ≡ journal_bytes history ++ more
+pub ends-parts : (bytes : List ℕ) (history : List Entry) (rest more : List ℕ) → IsFront bytes history rest → IsBytes rest → behind_end (length history) rest ≡ Some more → bytes ≡ journal_bytes history ++ more
 unfolding journal_bytes
 ends-parts bytes history rest more front fits e =
     front.parts ∙ ap (λ (x : List ℕ). front_bytes history ++ x) (an-end history rest more fits e) ∙ sym (append_assoc (front_bytes history) (end_bytes history) more)
@@ -277,25 +276,25 @@ none-read history rest none begins =
     none-some {A = Entry × List ℕ} (begins.0, begins.1) (sym none ∙ ap entry_at begins.2.bytes_are ∙ entry_again begins.0 begins.1 begins.2.writable)
 
 -- no entry comes where the one that is read may not
-pub none-allowed : (history : List Entry) (rest : List ℕ) (x : Entry × List ℕ) → entry_at rest ≡ Some x → may_come (standing history) x.0 ≡ false → ¬ BeginsWithEntry history rest
+pub none-allowed : (history : List Entry) (rest : List ℕ) (x : Entry × List ℕ) → entry_at rest ≡ Some x → ¬ Allows history x.0 → ¬ BeginsWithEntry history rest
 none-allowed history rest x read refused begins =
     let same : x ≡ (begins.0, begins.1) = same_Some x (begins.0, begins.1) (sym read ∙ ap entry_at begins.2.bytes_are ∙ entry_again begins.0 begins.1 begins.2.writable) in
-    both_ways (may_come (standing history) x.0) refused (ap (λ (y : Entry × List ℕ). may_come (standing history) y.0) same ∙ allowed-comes history begins.0 begins.2.allowed)
+    refused (subst (λ (y : Entry × List ℕ). Allows history y.0) (sym same) begins.2.allowed)
 
 -- the entry that is read comes where it may
-pub next-read : (history : List Entry) (rest : List ℕ) (x : Entry × List ℕ) → IsBytes rest → entry_at rest ≡ Some x → may_come (standing history) x.0 ≡ true → IsNext history rest x.0 x.1
+pub next-read : (history : List Entry) (rest : List ℕ) (x : Entry × List ℕ) → IsBytes rest → entry_at rest ≡ Some x → Allows history x.0 → IsNext history rest x.0 x.1
 next-read history rest x fits read may =
     let t = entry_takes rest x fits read in
-    record { allowed = comes-allowed history x.0 may; writable = t.1; bytes_are = t.0.parts }
+    record { allowed = may; writable = t.1; bytes_are = t.0.parts }
 
 -- one item is read, and what stands behind it is shorter
 read_one : (fuel : ℕ) (bytes : List ℕ) (history : List Entry) (rest : List ℕ) → length rest ≤ suc fuel → IsFront bytes history rest → IsBytes rest →
     ((later : List Entry) (behind : List ℕ) → length behind ≤ fuel → IsFront bytes later behind → IsBytes behind → HasReading bytes) → HasReading bytes
 read_one fuel bytes history rest less front fits again = from (entry_at rest) refl
   where
-    by_test : (x : Entry × List ℕ) → entry_at rest ≡ Some x → (may : Bool) → may_come (standing history) x.0 ≡ may → HasReading bytes
-    by_test x read false refused = stopped bytes history rest front fits (none-allowed history rest x read refused)
-    by_test x read true may =
+    by_test : (x : Entry × List ℕ) → entry_at rest ≡ Some x → Decided (Allows history x.0) → HasReading bytes
+    by_test x read (inr refused) = stopped bytes history rest front fits (none-allowed history rest x read refused)
+    by_test x read (inl may) =
         let next : IsNext history rest x.0 x.1 = next-read history rest x fits read may in
         let t = entry_takes rest x fits read in
         let shorter : length x.1 < length rest = next-shorter history rest x.0 x.1 next in
@@ -303,7 +302,7 @@ read_one fuel bytes history rest less front fits again = from (entry_at rest) re
 
     from : (o : Option (Entry × List ℕ)) → entry_at rest ≡ o → HasReading bytes
     from None none = stopped bytes history rest front fits (none-read history rest none)
-    from (Some x) read = by_test x read (may_come (standing history) x.0) refl
+    from (Some x) read = by_test x read (allows_or_not history x.0)
 
 reads : (fuel : ℕ) (bytes : List ℕ) (history : List Entry) (rest : List ℕ) → length rest ≤ fuel → IsFront bytes history rest → IsBytes rest → HasReading bytes
 reads zero bytes history [] less front fits = stopped bytes history [] front fits (empty history)

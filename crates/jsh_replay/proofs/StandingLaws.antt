@@ -1,10 +1,10 @@
 -- What a reader keeps of a history decides which entry may come next.
-use Rattle.std.proofs.Common.{◌≡◌, ℕ, ◌+◌, ◌<◌, ◌≤◌, ◌==◌, Bool, true, false, cond, List, [], ◌∷◌, ◌++◌, Option, None, Some, length, refl, ap, sym, ◌∙◌, arith, length-append, ltb}
-use Rattle.std.specs.Prelude.{◌&&◌, ◌||◌, not, nat_le}
-use Rattle.std.specs.List.{list_any, slice_get}
-use Rattle.std.specs.Option.{unwrap_or}
-use Rattle.std.proofs.lemmas.Bool.{and_from, and_parts, eq-eqb, eqb-true, le-leb, leb-true, lt-leb, lt-ltb, ltb-true, not-true, not_from_false}
+use Rattle.std.proofs.Common.{◌≡◌, ◌↔◌, ◌⊎◌, inl, inr, ℕ, ◌+◌, ◌<◌, ◌≤◌, Bool, true, false, List, [], ◌∷◌, ◌++◌, Option, None, Some, length, refl, ap, sym, ◌∙◌, arith}
+use Rattle.std.specs.Prelude.{◌||◌, IsTrue}
+use Rattle.std.specs.List.{slice_get}
+use Rattle.std.proofs.lemmas.Bool.{cases_lt, le-leb, lt-leb}
 use Rattle.std.proofs.lemmas.List.Folds.{list_any-append}
+use Rattle.std.proofs.lemmas.Option.{slice_get_within}
 use Rattle.jsh_lex.specs.Spelling.{is_identifier}
 use Rattle.jsh_snippet.specs.declared.acts.Act.{Act}
 use Rattle.jsh_snippet.specs.declared.acts.Act.TheVariants as act
@@ -23,9 +23,9 @@ use Rattle.jsh_core.proofs.Frames.{KeptByDrop, KeptByRunAct, KeptBySubmit, KeptB
 use Rattle.jsh_core.proofs.StandsLemmas.{source_bytes-more}
 use Rattle.jsh_core.proofs.Steps.{state_of-push}
 use Rattle.jsh_core.proofs.Views.{Enters, enters, full, view-enter}
-use Rattle.jsh_replay.specs.Standing.{Standing, clients_after, has_room_for, is_answered, is_closed, is_target, is_there, kept_of, may_come, may_do, standing, stands_after}
+use Rattle.jsh_replay.specs.Standing.{clients_after, is_closed, Keeps}
 
--- ---- where a history stands with an entry more
+-- ---- what is kept, with an entry more
 
 entered : (s : State) (acted : Acted) → Enters s acted → acted.state.clients ≡ clients_after s.clients 0 act.Enter
 unfolding clients_after
@@ -69,150 +69,134 @@ closed-push history entry = list_any-append closes history (entry ∷ []) ∙ ap
     last true = refl
     last false = refl
 
-same_standing : (a b : Standing) → a.count ≡ b.count → a.sources ≡ b.sources → a.clients ≡ b.clients → a.closed ≡ b.closed → a ≡ b
-same_standing a b count sources clients closed =
-    ap (λ (n : ℕ). kept_of n a.sources a.clients a.closed) count ∙ ap (λ (n : ℕ). kept_of b.count n a.clients a.closed) sources
-    ∙ ap (λ (cs : List Bool). kept_of b.count b.sources cs a.closed) clients ∙ ap (λ (c : Bool). kept_of b.count b.sources b.clients c) closed
+-- what is kept goes on with an entry
+pub Keeps-push : (history after : List Entry) (sources added : ℕ) (clients left : List Bool) (closed ends : Bool) (entry : Entry) → Keeps history sources clients closed →
+    after ≡ history ++ entry ∷ [] → added ≡ act_bytes entry.act → left ≡ clients_after clients entry.client entry.act → ends ≡ (closed || is_close entry.act) → Keeps after (sources + added) left ends
+Keeps-push history after sources added clients left closed ends entry keeps longer text moved closes = record {
+  sources_are = ap (λ n. sources + n) text ∙ ap (λ n. n + act_bytes entry.act) keeps.sources_are ∙ sym (source_bytes-more history entry) ∙ ap source_bytes (sym longer);
+  clients_are = moved ∙ ap (λ (cs : List Bool). clients_after cs entry.client entry.act) keeps.clients_are ∙ sym (step-clients (state_of history) entry)
+      ∙ sym (ap (λ (s : State). s.clients) (state_of-push history entry)) ∙ ap (λ (h : List Entry). (state_of h).clients) (sym longer);
+  closed_is = closes ∙ ap (λ b. b || is_close entry.act) keeps.closed_is ∙ sym (closed-push history entry) ∙ ap is_closed (sym longer);
+}
 
-pub standing-push : (history : List Entry) (entry : Entry) → standing (history ++ entry ∷ []) ≡ stands_after (standing history) entry
-unfolding standing stands_after
-standing-push history entry =
-    same_standing (standing (history ++ entry ∷ [])) (stands_after (standing history) entry)
-    (length-append history (entry ∷ []))
-    (source_bytes-more history entry)
-    (ap (λ (s : State). s.clients) (state_of-push history entry) ∙ step-clients (state_of history) entry)
-    (closed-push history entry)
-
--- what is kept of some entries, with one more
-pub kept-push : (entries : List Entry) (sources : ℕ) (clients after : List Bool) (closed : Bool) (entry : Entry) → kept_of (length entries) sources clients closed ≡ standing entries →
-    after ≡ clients_after clients entry.client entry.act →
-    kept_of (length (entries ++ entry ∷ [])) (sources + act_bytes entry.act) after (closed || is_close entry.act) ≡ standing (entries ++ entry ∷ [])
-unfolding stands_after
-kept-push entries sources clients after closed entry is moved =
-    same_standing (kept_of (length (entries ++ entry ∷ [])) (sources + act_bytes entry.act) after (closed || is_close entry.act)) (stands_after (kept_of (length entries) sources clients closed) entry)
-    (length-append entries (entry ∷ [])) refl moved refl
-    ∙ ap (λ (s : Standing). stands_after s entry) is ∙ sym (standing-push entries entry)
-
-pub kept-sources : (entries : List Entry) (sources : ℕ) (clients : List Bool) (closed : Bool) → kept_of (length entries) sources clients closed ≡ standing entries → sources ≡ source_bytes entries
-unfolding standing
-kept-sources entries sources clients closed is = ap (λ (s : Standing). s.sources) is
-
-pub kept-clients : (entries : List Entry) (sources : ℕ) (clients : List Bool) (closed : Bool) → kept_of (length entries) sources clients closed ≡ standing entries → clients ≡ (state_of entries).clients
-unfolding standing
-kept-clients entries sources clients closed is = ap (λ (s : Standing). s.clients) is
-
-pub kept-nothing : kept_of 0 0 (true ∷ []) false ≡ standing []
-unfolding standing
-kept-nothing = refl
+-- a client that may do something was numbered
+pub Keeps-within : (history : List Entry) (sources : ℕ) (clients : List Bool) (closed : Bool) (entry : Entry) → Keeps history sources clients closed → Allows history entry → entry.client < length clients
+Keeps-within history sources clients closed entry keeps allowed =
+    slice_get_within clients entry.client true (ap (λ (cs : List Bool). slice_get cs entry.client) keeps.clients_are ∙ allowed.present)
 
 -- ---- the test is what histories allow
 
-there-is : (o : Option Bool) → unwrap_or o false ≡ true → o ≡ Some true
-there-is None e = cc
-there-is (Some b) e = ap (λ (x : Bool). Some x) e
+-- no answer is both
+pub clash : (answer : Bool) → answer ≡ true → answer ≡ false → ⊥
+clash answer is isnt = cc
 
-is-there : (o : Option Bool) → o ≡ Some true → unwrap_or o false ≡ true
-is-there o e = ap (λ (x : Option Bool). unwrap_or x false) e
+-- a client that is there, where nothing is closed, is left with what it may do
+pub allowed-open : (history : List Entry) (sources : ℕ) (clients : List Bool) (closed : Bool) (entry : Entry) (there may : Bool) → Keeps history sources clients closed →
+    (IsTrue there ↔ (slice_get clients entry.client ≡ Some true)) → (IsTrue may ↔ MayDo history entry.client entry.act) → there ≡ true → closed ≡ false → IsTrue may ↔ Allows history entry
+allowed-open history sources clients closed entry there may keeps present does comes opened = (
+  λ may_do. record {
+    present = ap (λ (cs : List Bool). slice_get cs entry.client) (sym keeps.clients_are) ∙ present.0 comes;
+    «open» = sym keeps.closed_is ∙ opened;
+    may = does.0 may_do;
+  },
+  λ allowed. does.1 allowed.may,
+)
 
-room_for-is : (history : List Entry) (text : List ℕ) → has_room_for (length history) (source_bytes history) text ≡ true → HasRoomFor history text
-room_for-is history text e =
-    let a = and_parts (ltb (length history) 4194304 && nat_le (length text) 65536) (nat_le (source_bytes history + length text) 67108864) e in
-    let b = and_parts (ltb (length history) 4194304) (nat_le (length text) 65536) a.0 in
-    (ltb-true _ _ b.0, leb-true _ _ b.1, leb-true _ _ a.1)
+-- a client that isn't there may do nothing
+pub barred-absent : (history : List Entry) (sources : ℕ) (clients : List Bool) (closed : Bool) (entry : Entry) (there answer : Bool) → Keeps history sources clients closed →
+    (IsTrue there ↔ (slice_get clients entry.client ≡ Some true)) → there ≡ false → answer ≡ false → IsTrue answer ↔ Allows history entry
+barred-absent history sources clients closed entry there answer keeps present absent refused = (
+  λ granted. absurd (clash answer granted refused),
+  λ allowed. absurd (clash there (present.1 (ap (λ (cs : List Bool). slice_get cs entry.client) keeps.clients_are ∙ allowed.present)) absent),
+)
 
-is-room_for : (history : List Entry) (text : List ℕ) → HasRoomFor history text → has_room_for (length history) (source_bytes history) text ≡ true
-is-room_for history text h =
-    and_from (ltb (length history) 4194304 && nat_le (length text) 65536) (nat_le (source_bytes history + length text) 67108864)
-    (and_from (ltb (length history) 4194304) (nat_le (length text) 65536) (lt-ltb _ _ h.0) (le-leb _ _ h.1)) (le-leb _ _ h.2)
+-- nothing follows a close
+pub barred-closed : (history : List Entry) (sources : ℕ) (clients : List Bool) (closed : Bool) (entry : Entry) (answer : Bool) → Keeps history sources clients closed →
+    closed ≡ true → answer ≡ false → IsTrue answer ↔ Allows history entry
+barred-closed history sources clients closed entry answer keeps is refused = (
+  λ granted. absurd (clash answer granted refused),
+  λ allowed. absurd (clash closed is (keeps.closed_is ∙ allowed.open)),
+)
 
-target-is : (what : Target) → is_target what ≡ true → IsTarget what
-target-is (target.Id id) e = tt
-target-is (target.Named name) e = e
+-- ---- whether an entry may come is decided
 
-is-target : (what : Target) → IsTarget what → is_target what ≡ true
-is-target (target.Id id) h = refl
-is-target (target.Named name) h = h
+abbrev pub Decided : Type 0 → Type 0
+Decided P = P ⊎ (¬ P)
 
-answered-is : (what : Question) → is_answered what ≡ true → IsAnswered what
-answered-is (question.Complete text) e = absurd cc
-answered-is question.List e = tt
-answered-is question.ListAll e = tt
-answered-is question.Vars e = tt
-answered-is question.Methods e = tt
-answered-is question.Types e = tt
-answered-is question.Imports e = tt
-answered-is question.Threads e = tt
-answered-is question.Help e = tt
-answered-is (question.Invalid line) e = tt
+both : {A B : Type 0} → Decided A → Decided B → Decided (A × B)
+both (inl a) (inl b) = inl (a, b)
+both (inl a) (inr never) = inr (λ p. never p.1)
+both (inr never) b = inr (λ p. never p.0)
 
-is-answered : (what : Question) → IsAnswered what → is_answered what ≡ true
-is-answered (question.Complete text) h = absurd h
-is-answered question.List h = refl
-is-answered question.ListAll h = refl
-is-answered question.Vars h = refl
-is-answered question.Methods h = refl
-is-answered question.Types h = refl
-is-answered question.Imports h = refl
-is-answered question.Threads h = refl
-is-answered question.Help h = refl
-is-answered (question.Invalid line) h = refl
+three : {A B C : Type 0} → Decided A → Decided B → Decided C → Decided (A × B × C)
+three (inl a) (inl b) (inl c) = inl (a, b, c)
+three (inl a) (inl b) (inr never) = inr (λ p. never p.2)
+three (inl a) (inr never) c = inr (λ p. never p.1)
+three (inr never) b c = inr (λ p. never p.0)
 
-may_do-is : (history : List Entry) (client : ℕ) (what : Act) → may_do (length history) (source_bytes history) client what ≡ true → MayDo history client what
-unfolding may_do
-may_do-is history client act.Enter e = ltb-true _ _ e
-may_do-is history client (act.Submit source) e = room_for-is history source e
-may_do-is history client (act.Turn thread steps) e =
-    let a = and_parts (ltb (length history) 4194304) (nat_le 1 steps && nat_le steps 256) e in
-    let b = and_parts (nat_le 1 steps) (nat_le steps 256) a.1 in
-    (ltb-true _ _ a.0, leb-true _ _ b.0, leb-true _ _ b.1)
-may_do-is history client (act.Collect run) e = ltb-true _ _ e
-may_do-is history client (act.Expire run steps) e = ltb-true _ _ e
-may_do-is history client (act.Stop run) e = ltb-true _ _ e
-may_do-is history client (act.Drop what) e =
-    let a = and_parts (has_room_for (length history) (source_bytes history) (target_text what)) (is_target what) e in
-    (room_for-is history (target_text what) a.0, target-is what a.1)
-may_do-is history client (act.Ask what) e =
-    let a = and_parts (has_room_for (length history) (source_bytes history) (question_text what)) (is_answered what) e in
-    (room_for-is history (question_text what) a.0, answered-is what a.1)
-may_do-is history client act.Reset e = ltb-true _ _ e
-may_do-is history client act.Leave e = tt
-may_do-is history client act.Close e = eqb-true _ _ e
+below : (m n : ℕ) → Decided (m < n)
+below m n = elim (cases_lt m n) [ inl lt ↦ inl lt | inr le ↦ inr (λ (lt : m < n). omega arith) ]
 
-is-may_do : (history : List Entry) (client : ℕ) (what : Act) → MayDo history client what → may_do (length history) (source_bytes history) client what ≡ true
-unfolding may_do
-is-may_do history client act.Enter h = lt-ltb _ _ h
-is-may_do history client (act.Submit source) h = is-room_for history source h
-is-may_do history client (act.Turn thread steps) h =
-    and_from (ltb (length history) 4194304) (nat_le 1 steps && nat_le steps 256) (lt-ltb _ _ h.0)
-    (and_from (nat_le 1 steps) (nat_le steps 256) (le-leb _ _ h.1) (le-leb _ _ h.2))
-is-may_do history client (act.Collect run) h = lt-ltb _ _ h
-is-may_do history client (act.Expire run steps) h = lt-ltb _ _ h
-is-may_do history client (act.Stop run) h = lt-ltb _ _ h
-is-may_do history client (act.Drop what) h =
-    and_from (has_room_for (length history) (source_bytes history) (target_text what)) (is_target what) (is-room_for history (target_text what) h.0) (is-target what h.1)
-is-may_do history client (act.Ask what) h =
-    and_from (has_room_for (length history) (source_bytes history) (question_text what)) (is_answered what) (is-room_for history (question_text what) h.0) (is-answered what h.1)
-is-may_do history client act.Reset h = lt-ltb _ _ h
-is-may_do history client act.Leave h = refl
-is-may_do history client act.Close h = eq-eqb _ _ h
+within : (m n : ℕ) → Decided (m ≤ n)
+within m n = elim (cases_lt n m) [ inl lt ↦ inr (λ (le : m ≤ n). omega arith) | inr le ↦ inl le ]
 
-pub comes-allowed : (history : List Entry) (entry : Entry) → may_come (standing history) entry ≡ true → Allows history entry
-unfolding standing may_come
-comes-allowed history entry e =
-    let there : Bool = is_there (state_of history).clients entry.client in
-    let may : Bool = may_do (length history) (source_bytes history) entry.client entry.act in
-    let a = and_parts (there && not (is_closed history)) may e in
-    let b = and_parts there (not (is_closed history)) a.0 in
-    record {
-      present = there-is (slice_get (state_of history).clients entry.client) b.0;
-      «open» = not-true (is_closed history) b.1;
-      may = may_do-is history entry.client entry.act a.1;
-    }
+same : (m n : ℕ) → Decided (m ≡ n)
+same m n = elim (cases_lt m n) [
+  | inl lt ↦ inr (λ (e : m ≡ n). omega arith)
+  | inr le ↦ elim (cases_lt n m) [ inl lt ↦ inr (λ (e : m ≡ n). omega arith) | inr ge ↦ inl (omega arith) ]
+]
 
-pub allowed-comes : (history : List Entry) (entry : Entry) → Allows history entry → may_come (standing history) entry ≡ true
-unfolding standing may_come
-allowed-comes history entry h =
-    and_from (is_there (state_of history).clients entry.client && not (is_closed history)) (may_do (length history) (source_bytes history) entry.client entry.act)
-    (and_from (is_there (state_of history).clients entry.client) (not (is_closed history))
-    (is-there (slice_get (state_of history).clients entry.client) h.present) (not_from_false (is_closed history) h.open))
-    (is-may_do history entry.client entry.act h.may)
+is_true : (b : Bool) → Decided (b ≡ true)
+is_true true = inl refl
+is_true false = inr (λ (e : false ≡ true). cc)
+
+is_there : (o : Option Bool) → Decided (o ≡ Some true)
+is_there (Some true) = inl refl
+is_there (Some false) = inr (λ (e : Some false ≡ Some true). cc)
+is_there None = inr (λ (e : None ≡ Some true). cc)
+
+is_open : (b : Bool) → Decided (b ≡ false)
+is_open false = inl refl
+is_open true = inr (λ (e : true ≡ false). cc)
+
+room_for : (history : List Entry) (text : List ℕ) → Decided (HasRoomFor history text)
+room_for history text = three (below (length history) 4194304) (within (length text) 65536) (within (source_bytes history + length text) 67108864)
+
+target_fits : (what : Target) → Decided (IsTarget what)
+target_fits (target.Id id) = inl tt
+target_fits (target.Named name) = is_true (is_identifier name)
+
+answered : (what : Question) → Decided (IsAnswered what)
+answered question.List = inl tt
+answered question.ListAll = inl tt
+answered question.Vars = inl tt
+answered question.Methods = inl tt
+answered question.Types = inl tt
+answered question.Imports = inl tt
+answered question.Threads = inl tt
+answered question.Help = inl tt
+answered (question.Complete text) = inr (λ h. h)
+answered (question.Invalid line) = inl tt
+
+may_do : (history : List Entry) (client : ℕ) (what : Act) → Decided (MayDo history client what)
+may_do history client act.Enter = below (length history) 4194304
+may_do history client (act.Submit source) = room_for history source
+may_do history client (act.Turn thread steps) = three (below (length history) 4194304) (within 1 steps) (within steps 256)
+may_do history client (act.Collect run) = below (length history) 4194304
+may_do history client (act.Expire run steps) = below (length history) 4194304
+may_do history client (act.Stop run) = below (length history) 4194304
+may_do history client (act.Drop what) = both (room_for history (target_text what)) (target_fits what)
+may_do history client (act.Ask what) = both (room_for history (question_text what)) (answered what)
+may_do history client act.Reset = below (length history) 4194304
+may_do history client act.Leave = inl tt
+may_do history client act.Close = same client 0
+
+-- an entry is allowed or not
+pub allows_or_not : (history : List Entry) (entry : Entry) → Decided (Allows history entry)
+allows_or_not history entry = from (is_there (slice_get (state_of history).clients entry.client)) (is_open (is_closed history)) (may_do history entry.client entry.act)
+  where
+    from : Decided (slice_get (state_of history).clients entry.client ≡ Some true) → Decided (is_closed history ≡ false) → Decided (MayDo history entry.client entry.act) → Decided (Allows history entry)
+    from (inl present) (inl opened) (inl may) = inl (record { present = present; «open» = opened; may = may })
+    from (inl present) (inl opened) (inr never) = inr (λ allowed. never allowed.may)
+    from (inl present) (inr never) may = inr (λ allowed. never allowed.open)
+    from (inr never) opened may = inr (λ allowed. never allowed.present)

@@ -1,5 +1,5 @@
 -- What is answered where bytes aren't read.
-use Rattle.std.specs.Prelude.{◌≡◌, ℕ, ◌⊎◌, List}
+use Rattle.std.specs.Prelude.{◌≡◌, ℕ, List}
 use Rattle.jsh_snippet.specs.declared.acts.Entry.{Entry}
 use Rattle.jsh_snippet.specs.declared.replies.Reply.{Reply}
 use Rattle.jsh_core.specs.History.{replies_of}

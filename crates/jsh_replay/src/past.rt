@@ -1,10 +1,11 @@
 //! The entries that were read so far, and which may come next.
 
-ghost use Rattle.std.specs.Prelude.{◌≡◌, ◌<◌, ◌&&◌, ◌∷◌, ◌++◌, [], length, IfOk, OnOk, OnErr, vec_len, vec_capacity};
-ghost use Rattle.jsh_core.specs.History.{act_bytes, is_close, target_text, Allows};
-ghost use Rattle.jsh_core.specs.Questions.{question_text};
-ghost use Rattle.jsh_replay.specs.Standing.{standing};
-ghost use Rattle.jsh_replay.specs.Standing as spec;
+ghost use Rattle.std.specs.Prelude.{◌≡◌, ◌↔◌, ◌<◌, ◌≤◌, ◌+◌, ◌||◌, ◌∷◌, ◌++◌, [], Some, true, length, slice_get, IfOk, OnOk, OnErr, IsTrue, vec_len, vec_capacity};
+ghost use Rattle.jsh_tree.specs.Text.{most_source};
+ghost use Rattle.jsh_core.specs.Limits.{most_bytes};
+ghost use Rattle.jsh_core.specs.History.{act_bytes, is_close, source_bytes, target_text, Allows, HasRoom, IsTarget, MayDo};
+ghost use Rattle.jsh_core.specs.Questions.{question_text, IsAnswered};
+ghost use Rattle.jsh_replay.specs.Standing.{clients_after, Keeps};
 
 use jsh_core::{MOST_BYTES, MOST_CLIENTS, MOST_ENTRIES, MOST_STEPS};
 use jsh_lex::is_identifier;
@@ -22,95 +23,113 @@ pub struct Past {
     sources: u64,
     /// For each client that was numbered, whether it is still there.
     clients: Vec<bool>,
+    /// Whether there was a close.
     closed: bool,
 }
 
 impl Model for Past {
-    ghost use Rattle.std.specs.Prelude.{◌≡◌, List, length};
+    ghost use Rattle.std.specs.Prelude.{List};
     ghost use Rattle.jsh_snippet.specs.declared.acts.Entry.{Entry};
-    ghost use Rattle.jsh_replay.specs.Standing.{kept_of, standing};
+    ghost use Rattle.jsh_replay.specs.Standing.{Keeps};
 
     ghost Value = { List Entry };
 
     ghost view = { λ p. p.entries.items };
 
-    ghost invariant = { λ p. kept_of (length p.entries.items) p.sources p.clients.items p.closed ≡ standing p.entries.items };
+    ghost invariant = { λ p. Keeps p.entries.items p.sources p.clients.items p.closed };
 }
 
+/// Whether a client was numbered and hasn't left.
 fn is_there(clients: &[bool], client: u32) -> bool
-    ensures { result ≡ spec.is_there clients.now client }
+    ensures { IsTrue result ↔ (slice_get clients.now client ≡ Some true) }
 {
-    clients.get(client as usize).copied().unwrap_or(false)
+    match clients.get(client as usize) {
+        Some(there) => *there,
+        None => false,
+    }
 }
 
-fn has_room(count: usize) -> bool
-    ensures { result ≡ spec.has_room count }
+/// Whether there is room behind these for an entry that hands in no text.
+fn has_room(entries: &[Entry]) -> bool
+    ensures { IsTrue result ↔ HasRoom entries.now }
 {
-    (count as u64) < MOST_ENTRIES
+    entries.len() < MOST_ENTRIES as usize
 }
 
-/// Whether there is room for an entry with this text.
-fn has_room_for(count: usize, sources: u64, text: &str) -> bool
-    ensures { result ≡ spec.has_room_for count sources text.now }
+/// Whether there is room for an entry that hands in so many bytes, behind entries with so many source bytes.
+fn has_room_for(entries: &[Entry], sources: u64, bytes: u64) -> bool
+    ensures { IsTrue result ↔ (HasRoom entries.now × (bytes ≤ most_source) × (sources + bytes ≤ most_bytes)) }
 {
-    has_room(count)
-        && text.len() <= MOST_SOURCE
-        && sources <= MOST_BYTES
-        && text.len() as u64 <= MOST_BYTES - sources
+    has_room(entries) && bytes <= MOST_SOURCE as u64 && sources <= MOST_BYTES - bytes
 }
 
-fn may_drop(count: usize, sources: u64, target: &Target) -> bool
-    ensures { result ≡ (spec.has_room_for count sources (target_text target.now) && spec.is_target target.now) }
+fn is_target(target: &Target) -> bool
+    ensures { IsTrue result ↔ IsTarget target.now }
 {
     match target {
-        Target::Id(_) => has_room_for(count, sources, ""),
-        Target::Named(name) => {
-            has_room_for(count, sources, name.as_str()) && is_identifier(name.as_str())
-        }
+        Target::Id(_) => true,
+        Target::Named(name) => is_identifier(name.as_str()),
     }
 }
 
-fn may_ask(count: usize, sources: u64, question: &Question) -> bool
-    ensures { result ≡ (spec.has_room_for count sources (question_text question.now) && spec.is_answered question.now) }
+fn is_answered(question: &Question) -> bool
+    ensures { IsTrue result ↔ IsAnswered question.now }
 {
     match question {
+        Question::List => true,
+        Question::ListAll => true,
+        Question::Vars => true,
+        Question::Methods => true,
+        Question::Types => true,
+        Question::Imports => true,
+        Question::Threads => true,
+        Question::Help => true,
         Question::Complete(_) => false,
-        Question::Invalid(line) => has_room_for(count, sources, line.as_str()),
-        _ => has_room_for(count, sources, ""),
+        Question::Invalid(_) => true,
     }
 }
 
-/// Whether a client may do an act behind so many entries with so many source bytes.
-#[tactic(auto, unfolding(crate::specs::Standing::may_do))]
-fn may_do(count: usize, sources: u64, client: u32, act: &Act) -> bool
-    ensures { result ≡ spec.may_do count sources client act.now }
+/// Whether a client may do an act behind entries with so many source bytes.
+fn may_do(entries: &[Entry], sources: u64, client: u32, act: &Act) -> bool
+    requires { sources ≡ source_bytes entries.now }
+    ensures { IsTrue result ↔ MayDo entries.now client act.now }
 {
     match act {
-        Act::Submit { source } => has_room_for(count, sources, source.as_str()),
-        Act::Turn { thread: _, steps } => {
-            has_room(count) && 1 <= *steps && *steps <= MOST_STEPS
+        Act::Enter => has_room(entries),
+        Act::Submit { .. } => has_room_for(entries, sources, act_bytes(act)),
+        Act::Turn { steps, .. } => has_room(entries) && *steps >= 1 && *steps <= MOST_STEPS,
+        Act::Collect { .. } => has_room(entries),
+        Act::Expire { .. } => has_room(entries),
+        Act::Stop { .. } => has_room(entries),
+        Act::Drop { target } => has_room_for(entries, sources, act_bytes(act)) && is_target(target),
+        Act::Ask { question } => {
+            has_room_for(entries, sources, act_bytes(act)) && is_answered(question)
         }
-        Act::Drop { target } => may_drop(count, sources, target),
-        Act::Ask { question } => may_ask(count, sources, question),
+        Act::Reset => has_room(entries),
         Act::Leave => true,
         Act::Close => client == 0,
-        _ => has_room(count),
     }
 }
 
-/// Whether an entry may come behind what is kept of those before it.
-#[tactic(auto, unfolding(crate::specs::Standing::may_come))]
-fn comes(count: usize, sources: u64, clients: &[bool], closed: bool, entry: &Entry) -> bool
-    ensures { result ≡ spec.may_come (spec.kept_of count sources clients.now closed) entry.now }
+/// Whether an entry may come behind these, of which the rest is kept.
+fn is_allowed(
+    entries: &[Entry],
+    sources: u64,
+    clients: &[bool],
+    closed: bool,
+    entry: &Entry,
+) -> bool
+    requires { Keeps entries.now sources clients.now closed }
+    ensures { IsTrue result ↔ Allows entries.now entry.now }
 {
-    is_there(clients, entry.client) && !closed && may_do(count, sources, entry.client, &entry.act)
+    is_there(clients, entry.client) && !closed && may_do(entries, sources, entry.client, &entry.act)
 }
 
 /// The clients behind an entry of one of them.
 #[tactic(auto, unfolding(crate::specs::Standing::clients_after))]
 fn count_clients(clients: &mut Vec<bool>, entry: &Entry) -> Result<(), NoMemory>
     requires { entry.now.client < length clients.old.items }
-    ensures ok { OnOk result (clients.new.items ≡ spec.clients_after clients.old.items entry.now.client entry.now.act) }
+    ensures ok { OnOk result (clients.new.items ≡ clients_after clients.old.items entry.now.client entry.now.act) }
     ensures err { OnErr result (clients.new.items ≡ clients.old.items) }
 {
     match entry.act {
@@ -149,10 +168,10 @@ impl Past {
 
     /// Whether an entry may come next.
     pub fn may_come(&self, entry: &Entry) -> bool
-        ensures { result ≡ spec.may_come (standing self.now) entry.now }
+        ensures { IsTrue result ↔ Allows self.now entry.now }
     {
-        comes(
-            self.entries.len(),
+        is_allowed(
+            &self.entries,
             self.sources,
             &self.clients,
             self.closed,
@@ -169,7 +188,7 @@ impl Past {
         self.entries.reserve(1)?;
         count_clients(&mut self.clients, &entry)?;
         self.sources += act_bytes(&entry.act);
-        self.closed = self.closed || is_close(&entry.act);
+        self.closed = is_closed_by(self.closed, &entry.act);
         push_reserved(&mut self.entries, entry);
         Ok(())
     }
@@ -198,10 +217,11 @@ fn push_reserved(entries: &mut Vec<Entry>, entry: Entry)
     }
 }
 
-fn is_close(act: &Act) -> bool
-    ensures { result ≡ is_close act.now }
+/// Whether there was a close, behind an act.
+fn is_closed_by(closed: bool, act: &Act) -> bool
+    ensures { result ≡ (closed || is_close act.now) }
 {
-    matches!(act, Act::Close)
+    closed || matches!(act, Act::Close)
 }
 
 /// The bytes of source that an act has.
@@ -210,12 +230,27 @@ fn act_bytes(act: &Act) -> u64
 {
     match act {
         Act::Submit { source } => source.as_str().len() as u64,
-        Act::Drop {
-            target: Target::Named(name),
-        } => name.as_str().len() as u64,
-        Act::Ask {
-            question: Question::Complete(text) | Question::Invalid(text),
-        } => text.as_str().len() as u64,
+        Act::Drop { target } => target_bytes(target),
+        Act::Ask { question } => question_bytes(question),
+        _ => 0,
+    }
+}
+
+fn target_bytes(target: &Target) -> u64
+    ensures { result ≡ length (target_text target.now) }
+{
+    match target {
+        Target::Id(_) => 0,
+        Target::Named(name) => name.as_str().len() as u64,
+    }
+}
+
+fn question_bytes(question: &Question) -> u64
+    ensures { result ≡ length (question_text question.now) }
+{
+    match question {
+        Question::Complete(text) => text.as_str().len() as u64,
+        Question::Invalid(line) => line.as_str().len() as u64,
         _ => 0,
     }
 }

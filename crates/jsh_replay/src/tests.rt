@@ -1,5 +1,5 @@
-// Expected values are from the format's table and from row 19 of the product's worked rows. The places in damaged
-// journals are those of a reader of the tests' own.
+// Expected values are from the format's table and its example in `docs/journal.md`. The places in damaged journals are
+// those of a reader of the tests' own.
 mod damaged;
 mod limits;
 mod refused;
@@ -11,7 +11,8 @@ use std::alloc::Global;
 use std::process::Abort;
 use std::test::Fail;
 
-const ROW_19: [u8; 42] = [
+/// Client 0 enters client 1, which evaluates `1 + 2` and leaves, and client 0 closes.
+const ONE_SUM: [u8; 42] = [
     0x6a, 0x73, 0x68, 0x6a, 0x31, 0x0a, 0x01, 0x00, 0x02, 0x01, 0x00, 0x00, 0x00, 0x05, 0x31, 0x20,
     0x2b, 0x20, 0x32, 0x03, 0x01, 0x00, 0x00, 0x00, 0x01, 0x00, 0x02, 0x04, 0x01, 0x00, 0x00, 0x00,
     0x01, 0x0a, 0x01, 0x0b, 0x00, 0xff, 0x00, 0x00, 0x00, 0x06,
@@ -33,7 +34,7 @@ fn error_of(error: JournalError) -> Read {
     }
 }
 
-fn read(alloc: Global, bytes: &[u8]) -> Read {
+fn reading_of(alloc: Global, bytes: &[u8]) -> Read {
     match read_journal(alloc, bytes) {
         Ok(history) => Read::Entries(history.len()),
         Err(error) => error_of(error),
@@ -55,7 +56,7 @@ fn is_three(outcome: &Outcome) -> bool {
     }
 }
 
-/// Whether this is the reply to the entry of row 19 at this place.
+/// Whether this is the reply to the entry of the sum's journal at this place.
 fn is_reply(place: usize, reply: &Reply) -> bool {
     match (place, &reply.body) {
         (0, ReplyBody::Entered { number }) => *number == 1,
@@ -63,11 +64,13 @@ fn is_reply(place: usize, reply: &Reply) -> bool {
         (2, ReplyBody::Turned { steps }) => *steps == 2,
         (
             3,
-            ReplyBody::Collected(Collected::Over {
-                id,
-                name: _,
-                outcome,
-            }),
+            ReplyBody::Collected(
+                Collected::Over {
+                    id,
+                    name: _,
+                    outcome,
+                },
+            ),
         ) => *id == 1 && is_three(outcome),
         (4, ReplyBody::Left) => true,
         (5, ReplyBody::Closed) => true,
@@ -75,15 +78,15 @@ fn is_reply(place: usize, reply: &Reply) -> bool {
     }
 }
 
-/// Whether the entry of row 19 at this place is this client's.
+/// Whether the entry of the sum's journal at this place is this client's.
 fn is_entry(place: usize, entry: &Entry) -> bool {
     let clients = [0, 1, 1, 1, 1, 0];
     place < 6 && entry.client == clients[place]
 }
 
 #[test]
-fn the_journal_of_row_19_is_read(rt: HostRuntime) -> Result<(), Fail> {
-    let history = read_journal(rt.alloc(), &ROW_19).ok().ok_or("no journal")?;
+fn the_journal_of_a_sum_is_read(rt: HostRuntime) -> Result<(), Fail> {
+    let history = read_journal(rt.alloc(), &ONE_SUM).ok().ok_or("no journal")?;
     assert_eq!(rt; history.len(), 6);
     for (place, entry) in history.iter().enumerate() {
         assert!(rt; is_entry(place, entry), "{place}");
@@ -92,16 +95,16 @@ fn the_journal_of_row_19_is_read(rt: HostRuntime) -> Result<(), Fail> {
 }
 
 #[test]
-fn the_journal_of_row_19_is_written(rt: HostRuntime) -> Result<(), Fail> {
-    let history = read_journal(rt.alloc(), &ROW_19).ok().ok_or("no journal")?;
+fn the_journal_of_a_sum_is_written(rt: HostRuntime) -> Result<(), Fail> {
+    let history = read_journal(rt.alloc(), &ONE_SUM).ok().ok_or("no journal")?;
     let bytes = write_journal(rt.alloc(), &history)?;
-    assert_eq!(rt; bytes.as_slice(), ROW_19.as_slice());
+    assert_eq!(rt; bytes.as_slice(), ONE_SUM.as_slice());
     Ok(())
 }
 
 #[test]
-fn row_19_is_replayed(rt: HostRuntime) -> Result<(), Fail> {
-    let replies = replay(rt.alloc(), &ROW_19).ok().ok_or("no replies")?;
+fn a_sum_is_replayed(rt: HostRuntime) -> Result<(), Fail> {
+    let replies = replay(rt.alloc(), &ONE_SUM).ok().ok_or("no replies")?;
     assert_eq!(rt; replies.len(), 6);
     for (place, reply) in replies.iter().enumerate() {
         assert!(rt; is_reply(place, reply), "{place}");
@@ -111,8 +114,8 @@ fn row_19_is_replayed(rt: HostRuntime) -> Result<(), Fail> {
 
 /// A Turn that asks for more steps than it does is replayed too, and counts those that it does.
 #[test]
-fn row_19_with_256_steps_is_replayed(rt: HostRuntime) -> Result<(), Fail> {
-    let mut bytes = ROW_19;
+fn a_sum_with_256_steps_is_replayed(rt: HostRuntime) -> Result<(), Fail> {
+    let mut bytes = ONE_SUM;
     bytes[25] = 1;
     bytes[26] = 0;
     let replies = replay(rt.alloc(), &bytes).ok().ok_or("no replies")?;
@@ -125,7 +128,7 @@ fn row_19_with_256_steps_is_replayed(rt: HostRuntime) -> Result<(), Fail> {
 
 #[test]
 fn a_replay_refuses_as_reading_does(rt: HostRuntime) {
-    let found = match replay(rt.alloc(), &ROW_19[..41]) {
+    let found = match replay(rt.alloc(), &ONE_SUM[..41]) {
         Ok(replies) => Read::Entries(replies.len()),
         Err(error) => error_of(error),
     };

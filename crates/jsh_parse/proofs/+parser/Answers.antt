@@ -1,15 +1,18 @@
-use Rattle.std.proofs.Common.{◌≡◌, suc, ◌+◌, ◌-◌, false, ◌&&◌, [], ◌∷◌, ◌++◌, Some, None, length, drop, refl, sym, ap, ◌∙◌, arith, add-one}
+use Rattle.std.proofs.Common.{◌≡◌, suc, ◌+◌, ◌-◌, false, ◌&&◌, [], ◌∷◌, ◌++◌, Some, None, length, drop, sym, ap, ◌∙◌, subst, arith, add-one}
 use Rattle.std.proofs.lemmas.List.{length_push}
 use Rattle.jsh_tree.specs.declared.expression.Expr.TheVariants as tree
 use Rattle.jsh_tree.specs.declared.expression.Initial.TheVariants as initial
 use Rattle.jsh_parse.specs.Leaves.{is_target, names_type, type_of}
 use Rattle.jsh_parse.specs.Marks.{is_colon, is_right_paren, is_left_paren, is_right_bracket, is_left_bracket, is_left_brace, is_dot}
-use Rattle.jsh_parse.specs.Reader.{and_then, accept, is_cast, brackets, type_read, readers, operations, parts, sizes, listed, initials}
-use Rattle.jsh_parse.specs.Reading.{below, name_read, expr_at, conditional_at, level_at, unary_at, path_at, primary_at, creation_at, arguments_at, sizes_at, braces_at, bracketed_at, listed_at, initials_at, initial_at, named_at, through_super_at, part_at, parts_at, size_at, operation_at, operations_at, branches_at, cast_at, enclosed_at, filled_at, behind_value, applied, stepped, tested, with_sizes}
-use Rattle.jsh_parse.proofs.Onward.{prepend, level_fails, expr_fails, expr_stays, expr_unfit, conditional_fails, conditional_stays, conditional_chooses, operations_by, operations_more, operations_zero, operation_none, operation_type, operation_operator, unary_none, unary_postfix, unary_cast, path_by, part_none, part_dot_fails, part_field, part_call, part_other, parts_by, parts_more, parts_zero, bracketed_by, primary_none, primary_name, primary_this, primary_super, primary_new, primary_other, primary_enclosed, named_alone, named_call, super_by, creation_object, creation_wrong, creation_sized, creation_filled, filled_open, filled_by, arguments_fail, listed_by, listed_fails, listed_stays, listed_more, listed_zero, sizes_by, sizes_more, sizes_zero, size_none, size_fails, braces_fail, initials_by, initials_fail, initials_wrong, initials_end, initials_more, initials_zero, initial_none, initial_array, initial_value}
-use Rattle.jsh_parse.proofs.Rooms.{expr_flat, expr_assigns, branches_flat, branches_by, level_zero, level_suc, arguments_flat, arguments_open, arguments_empty, arguments_listed, size_flat, size_by, braces_flat, braces_values, unary_flat, unary_prefixed, cast_flat, cast_by, enclosed_flat, enclosed_by, part_flat, part_index}
+use Rattle.jsh_parse.specs.Reader.{and_then, accept, is_cast, brackets, type_read, readers, parts, sizes, listed, initials}
+use Rattle.jsh_parse.specs.Reading.{below, name_read, expr_at, conditional_at, level_at, unary_at, path_at, primary_at, creation_at, arguments_at, sizes_at, braces_at, bracketed_at, listed_at, initials_at, initial_at, named_at, through_super_at, part_at, parts_at, size_at, branches_at, cast_at, enclosed_at, filled_at, behind_value, applied, stepped, with_sizes}
+use Rattle.jsh_parse.proofs.Onward.{prepend, expr_fails, expr_stays, expr_unfit, conditional_fails, conditional_stays, conditional_chooses, unary_none, unary_postfix, unary_cast, path_by, part_none, part_dot_fails, part_field, part_call, part_other, parts_by, parts_more, parts_zero, bracketed_by, primary_none, primary_name, primary_this, primary_super, primary_new, primary_other, primary_enclosed, named_alone, named_call, super_by, creation_object, creation_wrong, creation_sized, creation_filled, filled_open, filled_by, arguments_fail, listed_by, listed_fails, listed_stays, listed_more, listed_zero, sizes_by, sizes_more, sizes_zero, size_none, size_fails, braces_fail, initials_by, initials_fail, initials_wrong, initials_end, initials_more, initials_zero, initial_none, initial_array, initial_value}
+use Rattle.jsh_parse.proofs.Rooms.{expr_flat, expr_assigns, branches_flat, branches_by, arguments_flat, arguments_open, arguments_empty, arguments_listed, size_flat, size_by, braces_flat, braces_values, unary_flat, unary_prefixed, cast_flat, cast_by, enclosed_flat, enclosed_by, part_flat, part_index}
+use Rattle.jsh_parse.specs.Runs.{begun, resumed, risen, after, GoesOn}
 use Rattle.jsh_parse.proofs.Passing.{hands_on, out_of_memory, too_deep, refuses, as_read, next}
 use Rattle.jsh_parse.proofs.Turns.{turn_fails, turn_ends, turn_goes_on, turns_end}
+use Rattle.jsh_parse.proofs.RunLemmas.{ends}
+use Rattle.jsh_parse.proofs.RunTurns.{reads_operand, no_operand}
 use Rattle.jsh_parse.proofs.Pieced.{both_true, first_false, second_false, left_and_pair, no_literal, primary_tree, braces_end, left_not_pair, left_turn, goes_forward}
 use Rattle.jsh_parse.proofs.+parser.Goals as goal
 use Rattle.jsh_parse.proofs.+parser.Goals.{expression::unary-else-is_left_paren-via-then-is_left_paren+else-is_cast, expression::unary-else-is_left_paren-via-else-is_left_paren, list::size-then-not-sees_left_bracket-via-then-not-sees_left_bracket, list::size-then-not-sees_left_bracket-via-else-not-sees_left_bracket+then-sees_brackets}
@@ -64,51 +67,6 @@ expression::branches-returns-in_err-no t c = hands_on c.args.input.now.tokens.no
 
 pub expression::branches-returns : goal.expression::branches-returns
 expression::branches-returns t c = (omega (arith, c.in_ok-yes.ensures.0, c.in_ok-behind.ensures.0, c.in_ok-no.ensures.0), branches_by c.args.input.now.text.now c.args.room (drop c.args.at c.args.input.now.tokens.now) c.in_ok-inner.inner c.in_ok-inner.ensures ∙ simp (c.in_ok-yes.ensures.1, c.in_ok-behind.ensures.1, c.in_ok-no.ensures.1))
-
-pub expression::level-returns-in_err-tree : goal.expression::level-returns-in_err-tree
-expression::level-returns-in_err-tree t c = hands_on c.args.input.now.tokens.now c.args.at c.args.at (level_at c.args.input.now.text.now c.args.room c.args.height (drop c.args.at c.args.input.now.tokens.now)) (unary_at c.args.input.now.text.now c.args.room (drop c.args.at c.args.input.now.tokens.now)) c.in_err-tree.field-0.0 c.from_residual.result c.from_residual.ensures.1 (λ n. level_fails c.args.input.now.text.now c.args.room (drop c.args.at c.args.input.now.tokens.now) 0 c.args.height (omega arith) (level_zero c.args.input.now.text.now c.args.room (drop c.args.at c.args.input.now.tokens.now) 0 refl ∙ n)) c.in_err-tree.ensures
-
-pub expression::level-returns-in_err-rest : goal.expression::level-returns-in_err-rest
-expression::level-returns-in_err-rest t c = hands_on c.args.input.now.tokens.now c.loop-lower.end c.args.at (level_at c.args.input.now.text.now c.args.room c.args.height (drop c.args.at c.args.input.now.tokens.now)) (operations_at c.args.input.now.text.now c.args.room c.loop-lower.lower (drop c.loop-lower.end c.args.input.now.tokens.now)) c.in_err-rest.field-0.0 c.from_residual-in_err-rest.result c.from_residual-in_err-rest.ensures.1 (λ n. level_fails c.args.input.now.text.now c.args.room (drop c.args.at c.args.input.now.tokens.now) (c.loop-lower.lower + 1) c.args.height (omega arith) (level_suc c.args.input.now.text.now c.args.room (drop c.args.at c.args.input.now.tokens.now) (c.loop-lower.lower + 1) c.loop-lower.lower (omega arith) ∙ simp (c.loop-lower.invariant.reads, n))) c.in_err-rest.ensures
-
-pub expression::level-returns-in_err-tree-2 : goal.expression::level-returns-in_err-tree-2
-expression::level-returns-in_err-tree-2 t c = out_of_memory c.args.input.now.tokens.now c.args.at (level_at c.args.input.now.text.now c.args.room c.args.height (drop c.args.at c.args.input.now.tokens.now)) c.from_residual-in_err-tree-2.result c.from_residual-in_err-tree-2.ensures.1
-
-pub expression::level-loop-lower-init : goal.expression::level-loop-lower-init
-expression::level-loop-lower-init t c = record { forward = omega (arith, c.in_ok-tree.ensures.0); reads = level_zero c.args.input.now.text.now c.args.room (drop c.args.at c.args.input.now.tokens.now) 0 refl ∙ c.in_ok-tree.ensures.1 }
-
-pub expression::level-loop-lower-preserved : goal.expression::level-loop-lower-preserved
-expression::level-loop-lower-preserved t c = record { forward = omega (arith, c.loop-lower.invariant.forward, c.in_ok-rest.ensures.0); reads = level_suc c.args.input.now.text.now c.args.room (drop c.args.at c.args.input.now.tokens.now) (c.loop-lower.lower + 1) c.loop-lower.lower (omega arith) ∙ simp (c.loop-lower.invariant.reads, c.in_ok-rest.ensures.1, c.in_ok-tree-2.ensures) }
-
-pub expression::level-returns : goal.expression::level-returns
-expression::level-returns t c = let all : c.args.height ≡ c.loop-lower.lower = omega arith in (c.loop-lower.invariant.forward, ap (λ n. level_at c.args.input.now.text.now c.args.room n (drop c.args.at c.args.input.now.tokens.now)) all ∙ c.loop-lower.invariant.reads)
-
-pub expression::operation-returns-in_default-found : goal.expression::operation-returns-in_default-found
-expression::operation-returns-in_default-found t c = as_read c.args.input.now.tokens.now c.args.at (c.args.at + 1) (operation_at c.args.input.now.text.now c.args.room c.args.height (drop c.args.at c.args.input.now.tokens.now)) (tested c.args.input.now.text.now (drop (c.args.at + 1) c.args.input.now.tokens.now)) c.tested.result (omega arith) (operation_type c.args.input.now.text.now c.args.room c.args.height (drop c.args.at c.args.input.now.tokens.now) (sym (c.in-Some.ensures.value) ∙ ap Some c.in_default-found.is) ∙ ap (tested c.args.input.now.text.now) (next c.args.input.now.tokens.now c.args.at)) c.tested.ensures
-
-pub expression::operation-returns-in_default : goal.expression::operation-returns-in_default
-expression::operation-returns-in_default t c = (omega (arith), operation_none c.args.input.now.text.now c.args.room c.args.height (drop c.args.at c.args.input.now.tokens.now) (sym c.in_default.ensures.value))
-
-pub expression::operation-returns-in_err-operand : goal.expression::operation-returns-in_err-operand
-expression::operation-returns-in_err-operand t c = hands_on c.args.input.now.tokens.now (c.args.at + 1) c.args.at (operation_at c.args.input.now.text.now c.args.room c.args.height (drop c.args.at c.args.input.now.tokens.now)) (level_at c.args.input.now.text.now c.args.room c.args.height (drop (c.args.at + 1) c.args.input.now.tokens.now)) c.in_err-operand.field-0.0 c.from_residual.result c.from_residual.ensures.1 (λ n. operation_operator c.args.input.now.text.now c.args.room c.args.height (drop c.args.at c.args.input.now.tokens.now) c.in-Some-found.operator (sym (c.in-Some.ensures.value) ∙ ap Some c.in-Some-found.is) ∙ simp (next c.args.input.now.tokens.now c.args.at, n)) c.in_err-operand.ensures
-
-pub expression::operation-returns : goal.expression::operation-returns
-expression::operation-returns t c = (omega (arith, c.in_ok-operand.ensures.0), operation_operator c.args.input.now.text.now c.args.room c.args.height (drop c.args.at c.args.input.now.tokens.now) c.in-Some-found.operator (sym (c.in-Some.ensures.value) ∙ ap Some c.in-Some-found.is) ∙ simp (next c.args.input.now.tokens.now c.args.at, c.in_ok-operand.ensures.1, c.in_ok-joined.ensures))
-
-pub expression::operations-returns-in_err-further : goal.expression::operations-returns-in_err-further
-expression::operations-returns-in_err-further t c = hands_on c.args.input.now.tokens.now c.loop-turn.at c.args.from (operations_at c.args.input.now.text.now c.args.room c.args.height (drop c.args.from c.args.input.now.tokens.now)) (operation_at c.args.input.now.text.now c.args.room c.args.height (drop c.loop-turn.at c.args.input.now.tokens.now)) c.in_err-further.field-0.0 c.from_residual.result c.from_residual.ensures.1 (λ n. (operations_by c.args.input.now.text.now c.args.room c.args.height (drop c.args.from c.args.input.now.tokens.now) ∙ ap (λ n. prepend [] (operations n c.args.input.now.text.now (9 - c.args.height) (level_at c.args.input.now.text.now c.args.room c.args.height) (drop c.args.from c.args.input.now.tokens.now))) (ap suc (sym c.left-most.ensures) ∙ sym (add-one c.left-most.result))) ∙ turn_fails (λ n ts. operations n c.args.input.now.text.now (9 - c.args.height) (level_at c.args.input.now.text.now c.args.room c.args.height) ts) (λ ts. operation_at c.args.input.now.text.now c.args.room c.args.height ts) (λ n ts. operations_more c.args.input.now.text.now c.args.room c.args.height n ts) (prepend [] (operations (c.left-most.result + 1) c.args.input.now.text.now (9 - c.args.height) (level_at c.args.input.now.text.now c.args.room c.args.height) (drop c.args.from c.args.input.now.tokens.now))) ((c.left-most.result + 1) - c.loop-turn._turn) ((c.left-most.result + 1) - (c.loop-turn._turn + 1)) c.loop-turn.rest.items (drop c.loop-turn.at c.args.input.now.tokens.now) (omega arith) c.loop-turn.invariant.reads n) c.in_err-further.ensures
-
-pub expression::operations-returns-in_default : goal.expression::operations-returns-in_default
-expression::operations-returns-in_default t c = (omega (arith, c.loop-turn.invariant.forward, c.in_ok-further.ensures.0), (operations_by c.args.input.now.text.now c.args.room c.args.height (drop c.args.from c.args.input.now.tokens.now) ∙ ap (λ n. prepend [] (operations n c.args.input.now.text.now (9 - c.args.height) (level_at c.args.input.now.text.now c.args.room c.args.height) (drop c.args.from c.args.input.now.tokens.now))) (ap suc (sym c.left-most.ensures) ∙ sym (add-one c.left-most.result))) ∙ turn_ends (λ n ts. operations n c.args.input.now.text.now (9 - c.args.height) (level_at c.args.input.now.text.now c.args.room c.args.height) ts) (λ ts. operation_at c.args.input.now.text.now c.args.room c.args.height ts) (λ n ts. operations_more c.args.input.now.text.now c.args.room c.args.height n ts) (prepend [] (operations (c.left-most.result + 1) c.args.input.now.text.now (9 - c.args.height) (level_at c.args.input.now.text.now c.args.room c.args.height) (drop c.args.from c.args.input.now.tokens.now))) ((c.left-most.result + 1) - c.loop-turn._turn) ((c.left-most.result + 1) - (c.loop-turn._turn + 1)) c.loop-turn.rest.items (drop c.loop-turn.at c.args.input.now.tokens.now) (drop c.in_ok-further.behind c.args.input.now.tokens.now) (omega arith) c.loop-turn.invariant.reads (c.in_ok-further.ensures.1 ∙ ap (λ o. Some (o, drop c.in_ok-further.behind c.args.input.now.tokens.now)) c.in_default.is) ∙ ap (λ items. Some (items, drop c.in_ok-further.behind c.args.input.now.tokens.now)) (sym c.from_vec.ensures))
-
-pub expression::operations-returns-in_err-add : goal.expression::operations-returns-in_err-add
-expression::operations-returns-in_err-add t c = out_of_memory c.args.input.now.tokens.now c.args.from (operations_at c.args.input.now.text.now c.args.room c.args.height (drop c.args.from c.args.input.now.tokens.now)) c.from_residual-in_err-add.result c.from_residual-in_err-add.ensures.1
-
-pub expression::operations-loop-turn-preserved : goal.expression::operations-loop-turn-preserved
-expression::operations-loop-turn-preserved t c = record { forward = omega (arith, c.loop-turn.invariant.forward, c.in_ok-further.ensures.0); reads = turn_goes_on (λ n ts. operations n c.args.input.now.text.now (9 - c.args.height) (level_at c.args.input.now.text.now c.args.room c.args.height) ts) (λ ts. operation_at c.args.input.now.text.now c.args.room c.args.height ts) (λ n ts. operations_more c.args.input.now.text.now c.args.room c.args.height n ts) (prepend [] (operations (c.left-most.result + 1) c.args.input.now.text.now (9 - c.args.height) (level_at c.args.input.now.text.now c.args.room c.args.height) (drop c.args.from c.args.input.now.tokens.now))) ((c.left-most.result + 1) - c.loop-turn._turn) ((c.left-most.result + 1) - (c.loop-turn._turn + 1)) c.loop-turn.rest.items c.in-Some.further (drop c.loop-turn.at c.args.input.now.tokens.now) (drop c.in_ok-further.behind c.args.input.now.tokens.now) (omega arith) c.loop-turn.invariant.reads (c.in_ok-further.ensures.1 ∙ ap (λ o. Some (o, drop c.in_ok-further.behind c.args.input.now.tokens.now)) c.in-Some.is) ∙ ap (λ items. prepend items (operations ((c.left-most.result + 1) - (c.loop-turn._turn + 1)) c.args.input.now.text.now (9 - c.args.height) (level_at c.args.input.now.text.now c.args.room c.args.height) (drop c.in_ok-further.behind c.args.input.now.tokens.now))) (sym c.in_ok-add.ensures) }
-
-pub expression::operations-returns : goal.expression::operations-returns
-expression::operations-returns t c = refuses c.args.input.now.tokens.now c.args.from (operations_at c.args.input.now.text.now c.args.room c.args.height (drop c.args.from c.args.input.now.tokens.now)) c.refuse.result c.refuse.ensures ((operations_by c.args.input.now.text.now c.args.room c.args.height (drop c.args.from c.args.input.now.tokens.now) ∙ ap (λ n. prepend [] (operations n c.args.input.now.text.now (9 - c.args.height) (level_at c.args.input.now.text.now c.args.room c.args.height) (drop c.args.from c.args.input.now.tokens.now))) (ap suc (sym c.left-most.ensures) ∙ sym (add-one c.left-most.result))) ∙ turns_end (λ n ts. operations n c.args.input.now.text.now (9 - c.args.height) (level_at c.args.input.now.text.now c.args.room c.args.height) ts) (λ ts. operations_zero c.args.input.now.text.now (9 - c.args.height) (level_at c.args.input.now.text.now c.args.room c.args.height) ts) (prepend [] (operations (c.left-most.result + 1) c.args.input.now.text.now (9 - c.args.height) (level_at c.args.input.now.text.now c.args.room c.args.height) (drop c.args.from c.args.input.now.tokens.now))) ((c.left-most.result + 1) - c.loop-turn._turn) c.loop-turn.rest.items (drop c.loop-turn.at c.args.input.now.tokens.now) (omega arith) c.loop-turn.invariant.reads)
 
 pub path::parts-returns-in_err-further : goal.path::parts-returns-in_err-further
 path::parts-returns-in_err-further t c = hands_on c.args.input.now.tokens.now c.loop-turn.at c.args.from (parts_at c.args.input.now.text.now c.args.room (drop c.args.from c.args.input.now.tokens.now)) (part_at c.args.input.now.text.now c.args.room (drop c.loop-turn.at c.args.input.now.tokens.now)) c.in_err-further.field-0.0 c.from_residual.result c.from_residual.ensures.1 (λ n. (parts_by c.args.input.now.text.now c.args.room (drop c.args.from c.args.input.now.tokens.now) ∙ ap (λ n. prepend [] (parts n c.args.input.now.text.now (below c.args.input.now.text.now c.args.room) (drop c.args.from c.args.input.now.tokens.now))) (ap suc (sym c.left-most.ensures) ∙ sym (add-one c.left-most.result))) ∙ turn_fails (λ n ts. parts n c.args.input.now.text.now (below c.args.input.now.text.now c.args.room) ts) (λ ts. part_at c.args.input.now.text.now c.args.room ts) (λ n ts. parts_more c.args.input.now.text.now c.args.room n ts) (prepend [] (parts (c.left-most.result + 1) c.args.input.now.text.now (below c.args.input.now.text.now c.args.room) (drop c.args.from c.args.input.now.tokens.now))) ((c.left-most.result + 1) - c.loop-turn._turn) ((c.left-most.result + 1) - (c.loop-turn._turn + 1)) c.loop-turn.parts.items (drop c.loop-turn.at c.args.input.now.tokens.now) (omega arith) c.loop-turn.invariant.reads n) c.in_err-further.ensures
@@ -172,6 +130,24 @@ list::initials-loop-turn-preserved t c = record { forward = omega (arith, c.loop
 
 pub list::initials-returns : goal.list::initials-returns
 list::initials-returns t c = refuses c.args.input.now.tokens.now c.args.from (initials_at c.args.input.now.text.now c.args.room (drop c.args.from c.args.input.now.tokens.now)) c.refuse.result c.refuse.ensures ((initials_by c.args.input.now.text.now c.args.room (drop c.args.from c.args.input.now.tokens.now) ∙ ap (λ n. prepend [] (initials n (readers c.args.input.now.text.now c.args.room) (drop c.args.from c.args.input.now.tokens.now))) (ap suc (sym c.left-most.ensures) ∙ sym (add-one c.left-most.result))) ∙ turns_end (λ n ts. initials n (readers c.args.input.now.text.now c.args.room) ts) (λ ts. initials_zero (readers c.args.input.now.text.now c.args.room) ts) (prepend [] (initials (c.left-most.result + 1) (readers c.args.input.now.text.now c.args.room) (drop c.args.from c.args.input.now.tokens.now))) ((c.left-most.result + 1) - c.loop-turn._turn) c.loop-turn.values.items (drop c.loop-turn.at c.args.input.now.tokens.now) (omega arith) c.loop-turn.invariant.reads)
+
+pub expression::level-returns-in_err-operand : goal.expression::level-returns-in_err-operand
+expression::level-returns-in_err-operand t c = hands_on c.args.input.now.tokens.now c.operands.place c.args.at (level_at c.args.input.now.text.now c.args.room c.args.height (drop c.args.at c.args.input.now.tokens.now)) (unary_at c.args.input.now.text.now c.args.room (drop c.operands.place c.args.input.now.tokens.now)) c.in_err-operand.field-0.0 c.from_residual.result c.from_residual.ensures.1 (λ n. no_operand c.args.input.now.text.now c.args.room c.args.input.now.tokens.now (level_at c.args.input.now.text.now c.args.room c.args.height (drop c.args.at c.args.input.now.tokens.now)) c.operands.waiting.items c.operands.wanted c.operands.place c.operands.invariant.reads n) c.in_err-operand.ensures
+
+pub expression::level-returns-in_err-next : goal.expression::level-returns-in_err-next
+expression::level-returns-in_err-next t c = ends c.args.input.now.tokens.now c.args.at (after c.args.input.now.text.now c.args.room c.args.input.now.tokens.now c.settle.new.waiting.items) (level_at c.args.input.now.text.now c.args.room c.args.height (drop c.args.at c.args.input.now.tokens.now)) (resumed c.args.input.now.text.now c.args.room c.operands.waiting.items (risen c.args.input.now.text.now c.args.room (begun c.in_ok-operand.operand c.operands.wanted) (drop c.in_ok-operand.behind c.args.input.now.tokens.now))) c.in_err-next.field-0.0 c.from_residual-in_err-next.result c.from_residual-in_err-next.ensures.1 (reads_operand c.args.input.now.text.now c.args.room c.args.input.now.tokens.now (level_at c.args.input.now.text.now c.args.room c.args.height (drop c.args.at c.args.input.now.tokens.now)) c.operands.waiting.items c.in_ok-operand.operand c.operands.wanted c.operands.place c.in_ok-operand.behind c.operands.invariant.reads c.in_ok-operand.ensures.1) (c.in_err-next.ensures.value c.args.room)
+
+pub expression::level-returns-in-Whole : goal.expression::level-returns-in-Whole
+expression::level-returns-in-Whole t c = let on = subst (GoesOn (length c.args.input.now.tokens.now) c.in_ok-operand.behind) c.in-Whole.is c.in_ok-next.ensures.forward in (omega (arith, c.operands.invariant.forward, c.in_ok-operand.ensures.0, on), reads_operand c.args.input.now.text.now c.args.room c.args.input.now.tokens.now (level_at c.args.input.now.text.now c.args.room c.args.height (drop c.args.at c.args.input.now.tokens.now)) c.operands.waiting.items c.in_ok-operand.operand c.operands.wanted c.operands.place c.in_ok-operand.behind c.operands.invariant.reads c.in_ok-operand.ensures.1 ∙ c.in_ok-next.ensures.value c.args.room ∙ ap (after c.args.input.now.text.now c.args.room c.args.input.now.tokens.now c.settle.new.waiting.items) c.in-Whole.is)
+
+pub expression::level-operands-init : goal.expression::level-operands-init
+expression::level-operands-init t c = record { forward = omega arith; reads = ap (λ ws. resumed c.args.input.now.text.now c.args.room ws (level_at c.args.input.now.text.now c.args.room c.args.height (drop c.args.at c.args.input.now.tokens.now))) (sym c.new-waiting.ensures.items) }
+
+pub expression::level-operands-preserved : goal.expression::level-operands-preserved
+expression::level-operands-preserved t c = let on = subst (GoesOn (length c.args.input.now.tokens.now) c.in_ok-operand.behind) c.in-Operand.is c.in_ok-next.ensures.forward in record { forward = omega (arith, c.operands.invariant.forward, c.in_ok-operand.ensures.0, on.0); reads = reads_operand c.args.input.now.text.now c.args.room c.args.input.now.tokens.now (level_at c.args.input.now.text.now c.args.room c.args.height (drop c.args.at c.args.input.now.tokens.now)) c.operands.waiting.items c.in_ok-operand.operand c.operands.wanted c.operands.place c.in_ok-operand.behind c.operands.invariant.reads c.in_ok-operand.ensures.1 ∙ c.in_ok-next.ensures.value c.args.room ∙ ap (after c.args.input.now.text.now c.args.room c.args.input.now.tokens.now c.settle.new.waiting.items) c.in-Operand.is }
+
+pub expression::level-operands-smaller : goal.expression::level-operands-smaller
+expression::level-operands-smaller t c = let on = subst (GoesOn (length c.args.input.now.tokens.now) c.in_ok-operand.behind) c.in-Operand.is c.in_ok-next.ensures.forward in omega (arith, c.in_ok-operand.ensures.0, on.0, on.1)
 
 pub expression::unary-returns-in_default : goal.expression::unary-returns-in_default
 expression::unary-returns-in_default t c = refuses c.args.input.now.tokens.now c.args.at (unary_at c.args.input.now.text.now c.args.room (drop c.args.at c.args.input.now.tokens.now)) c.refuse.result c.refuse.ensures (ap (unary_at c.args.input.now.text.now c.args.room) c.in_default.ensures.found ∙ unary_none c.args.input.now.text.now c.args.room)

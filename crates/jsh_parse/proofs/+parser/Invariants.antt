@@ -1,6 +1,7 @@
-use Rattle.std.proofs.Common.{◌≡◌, ◌+◌, ◌*◌, ◌-◌, ◌≤◌, [], Some, length, drop}
-use Rattle.jsh_parse.specs.Reader.{readers, operations, parts, sizes, listed, initials}
+use Rattle.std.proofs.Common.{◌≡◌, ◌+◌, ◌*◌, ◌-◌, ◌≤◌, [], length, drop}
+use Rattle.jsh_parse.specs.Reader.{readers, parts, sizes, listed, initials}
 use Rattle.jsh_parse.specs.Reading.{below, level_at}
+use Rattle.jsh_parse.specs.Runs.{resumed}
 use Rattle.jsh_parse.proofs.Onward.{prepend}
 use Rattle.jsh_parse.proofs.+parser.Given as goal
 
@@ -14,13 +15,7 @@ abbrev pub decreases-expression::branches : goal.decreases-expression::branches
 decreases-expression::branches l = 64 * l.room
 
 abbrev pub decreases-expression::level : goal.decreases-expression::level
-decreases-expression::level l = 64 * l.room + (12 + 3 * l.height)
-
-abbrev pub decreases-expression::operations : goal.decreases-expression::operations
-decreases-expression::operations l = 64 * l.room + (14 + 3 * l.height)
-
-abbrev pub decreases-expression::operation : goal.decreases-expression::operation
-decreases-expression::operation l = 64 * l.room + (13 + 3 * l.height)
+decreases-expression::level l = 64 * l.room + 12
 
 abbrev pub decreases-expression::unary : goal.decreases-expression::unary
 decreases-expression::unary l = 64 * l.room + 11
@@ -79,18 +74,6 @@ decreases-list::initials l = 64 * l.room + 52
 abbrev pub decreases-list::initial : goal.decreases-list::initial
 decreases-list::initial l = 64 * l.room + 50
 
-abbrev pub invariant-expression::level-loop-lower : goal.invariant-expression::level-loop-lower
-invariant-expression::level-loop-lower l = record {
-  forward : l.at ≤ l.end;
-  reads : level_at l.input.text.now l.room l.lower (drop l.at l.input.tokens.now) ≡ Some (l.tree, drop l.end l.input.tokens.now);
-}
-
-abbrev pub invariant-expression::operations-loop-turn : goal.invariant-expression::operations-loop-turn
-invariant-expression::operations-loop-turn l = record {
-  forward : l.from ≤ l.at;
-  reads : prepend [] (operations l.most l.input.text.now (9 - l.height) (level_at l.input.text.now l.room l.height) (drop l.from l.input.tokens.now)) ≡ prepend l.rest.items (operations (l.most - l._turn) l.input.text.now (9 - l.height) (level_at l.input.text.now l.room l.height) (drop l.at l.input.tokens.now));
-}
-
 abbrev pub invariant-path::parts-loop-turn : goal.invariant-path::parts-loop-turn
 invariant-path::parts-loop-turn l = record {
   forward : l.from ≤ l.at;
@@ -114,4 +97,13 @@ invariant-list::sizes-loop-turn l = record {
   forward : l.from + length l.sizes.items ≤ l.at;
   few : length l.sizes.items ≤ length l.input.tokens.now - l.from;
   reads : prepend [] (sizes l.most (below l.input.text.now l.room) (drop l.from l.input.tokens.now)) ≡ prepend l.sizes.items (sizes (l.most - l._turn) (below l.input.text.now l.room) (drop l.at l.input.tokens.now));
+}
+
+abbrev pub decreases-expression::level-operands : goal.decreases-expression::level-operands
+decreases-expression::level-operands l = (length l.input.tokens.now + 1) - l.place
+
+abbrev pub invariant-expression::level-operands : goal.invariant-expression::level-operands
+invariant-expression::level-operands l = record {
+  forward : l.at ≤ l.place;
+  reads : level_at l.input.text.now l.room l.height (drop l.at l.input.tokens.now) ≡ resumed l.input.text.now l.room l.waiting.items (level_at l.input.text.now l.room l.wanted (drop l.place l.input.tokens.now));
 }

@@ -1,8 +1,8 @@
-//! The journal of row 19, cut short and changed.
-use super::{ROW_19, Read, read};
+//! The journal of a sum, cut short and changed.
+use super::{ONE_SUM, Read, reading_of};
 use std::test::Fail;
 
-/// A reader that knows the six tags of row 19 alone, and counts no limit.
+/// A reader that knows the six tags of that journal alone, and counts no limit.
 #[derive(Clone, Copy)]
 struct Plain {
     count: u64,
@@ -11,7 +11,7 @@ struct Plain {
     closed: bool,
 }
 
-fn plain() -> Plain {
+fn at_header() -> Plain {
     let mut there = [false; 256];
     there[0] = true;
     Plain {
@@ -79,13 +79,7 @@ impl Plain {
             3 => behind_turn(fields),
             4 => behind(fields, 4),
             10 => Some(fields),
-            11 => {
-                if *client == 0 {
-                    Some(fields)
-                } else {
-                    None
-                }
-            }
+            11 => { if *client == 0 { Some(fields) } else { None } }
             _ => None,
         }
     }
@@ -110,7 +104,7 @@ impl Plain {
 
 /// Where the first bad item begins behind a header, counted from the end of the bytes.
 fn left_at_fault(bytes: &[u8]) -> Option<usize> {
-    let mut at = plain();
+    let mut at = at_header();
     let mut rest = bytes;
     for _item in 0..bytes.len() {
         match at.behind_entry(rest) {
@@ -151,28 +145,32 @@ fn plain_read(bytes: &[u8], entries: usize) -> Read {
 }
 
 #[test]
-fn row_19_cut_short_is_bad_where_an_item_is_not_whole(rt: HostRuntime) {
+fn a_journal_cut_short_is_bad_where_an_item_is_not_whole(rt: HostRuntime) {
     for len in 0..42 {
-        let cut = &ROW_19[..len];
-        assert_eq!(rt; read(rt.alloc(), cut), plain_read(cut, 6), "{len}");
+        let cut = &ONE_SUM[..len];
+        assert_eq!(rt; reading_of(rt.alloc(), cut), plain_read(cut, 6), "{len}");
     }
 }
 
 #[test]
-fn row_19_with_a_byte_changed_is_read_alike(rt: HostRuntime) {
+fn a_journal_with_a_byte_changed_is_read_alike(rt: HostRuntime) {
     for place in 0..42 {
         for byte in [0, 1, 255] {
-            let mut bytes = ROW_19;
+            let mut bytes = ONE_SUM;
             bytes[place] = byte;
-            assert_eq!(rt; read(rt.alloc(), &bytes), plain_read(&bytes, 6), "{place} {byte}");
+            assert_eq!(rt;
+                reading_of(rt.alloc(), &bytes),
+                plain_read(&bytes, 6),
+                "{place} {byte}"
+            );
         }
     }
 }
 
 #[test]
-fn the_rows_places_are_told(rt: HostRuntime) -> Result<(), Fail> {
-    assert_eq!(rt; read(rt.alloc(), &ROW_19), Read::Entries(6));
-    assert_eq!(rt; read(rt.alloc(), &ROW_19[..41]), Read::Bad(37));
-    assert_eq!(rt; read(rt.alloc(), &[]), Read::Bad(0));
+fn the_places_of_the_example_are_told(rt: HostRuntime) -> Result<(), Fail> {
+    assert_eq!(rt; reading_of(rt.alloc(), &ONE_SUM), Read::Entries(6));
+    assert_eq!(rt; reading_of(rt.alloc(), &ONE_SUM[..41]), Read::Bad(37));
+    assert_eq!(rt; reading_of(rt.alloc(), &[]), Read::Bad(0));
     Ok(())
 }

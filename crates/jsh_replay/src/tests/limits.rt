@@ -1,5 +1,5 @@
 //! The greatest client, and the longest text.
-use super::{Read, read, with_header};
+use super::{Read, reading_of, with_header};
 use std::alloc::Global;
 use std::test::Fail;
 
@@ -39,7 +39,7 @@ fn a_client_is_one_of_sixty_four(rt: HostRuntime) -> Result<(), Fail> {
     ];
     for (enters, client, want) in rows {
         let bytes = entered(rt.alloc(), enters, client)?;
-        assert_eq!(rt; read(rt.alloc(), &bytes), want, "{enters} {client}");
+        assert_eq!(rt; reading_of(rt.alloc(), &bytes), want, "{enters} {client}");
     }
     Ok(())
 }
@@ -49,7 +49,7 @@ fn a_text_has_at_most_65536_bytes(rt: HostRuntime) -> Result<(), Fail> {
     let rows = [(65_536, Read::Entries(1)), (65_537, Read::Bad(6))];
     for (len, want) in rows {
         let bytes = submitted(rt.alloc(), len)?;
-        assert_eq!(rt; read(rt.alloc(), &bytes), want, "{len}");
+        assert_eq!(rt; reading_of(rt.alloc(), &bytes), want, "{len}");
     }
     Ok(())
 }

@@ -1,5 +1,5 @@
 //! Bytes that aren't a journal.
-use super::{Read, read, with_header};
+use super::{Read, reading_of, with_header};
 use std::alloc::Global;
 use std::process::Abort;
 use std::test::Fail;
@@ -10,7 +10,7 @@ struct Row(&'static [u8], u64);
 
 fn check(rt: &impl Abort, alloc: Global, row: Row) -> Result<(), Fail> {
     let bytes = with_header(alloc, row.0)?;
-    assert_eq!(rt; read(alloc, &bytes), Read::Bad(row.1), "{:?}", row.0);
+    assert_eq!(rt; reading_of(alloc, &bytes), Read::Bad(row.1), "{:?}", row.0);
     Ok(())
 }
 
@@ -97,6 +97,6 @@ fn headers_are_refused(rt: HostRuntime) {
         b"jshj1\r\n\xff\x00\x00\x00\x00".as_slice(),
         b" jshj1\n\xff\x00\x00\x00\x00".as_slice(),
     ] {
-        assert_eq!(rt; read(rt.alloc(), bytes), Read::Bad(0));
+        assert_eq!(rt; reading_of(rt.alloc(), bytes), Read::Bad(0));
     }
 }

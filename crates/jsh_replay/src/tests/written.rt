@@ -139,13 +139,19 @@ fn acts_with_numbers(rt: HostRuntime) -> Result<(), Fail> {
 fn acts_with_texts(rt: HostRuntime) -> Result<(), Fail> {
     let rows = [
         Row(b"\x02\x00\x00\x00\x00\x00", Seen::Submit("")),
-        Row(b"\x02\x00\x00\x00\x00\x05\x31\x20+\x202", Seen::Submit("1 + 2")),
+        Row(
+            b"\x02\x00\x00\x00\x00\x05\x31\x20+\x202",
+            Seen::Submit("1 + 2"),
+        ),
         Row(
             b"\x02\x00\x00\x00\x00\x04\xf0\x9f\x98\x80",
             Seen::Submit("\u{1f600}"),
         ),
         Row(b"\x07\x00\x01\x00\x00\x00\x01x", Seen::DropName("x")),
-        Row(b"\x07\x00\x01\x00\x00\x00\x02\xc3\xa4", Seen::DropName("\u{e4}")),
+        Row(
+            b"\x07\x00\x01\x00\x00\x00\x02\xc3\xa4",
+            Seen::DropName("\u{e4}"),
+        ),
         Row(b"\x08\x00\x09\x00\x00\x00\x00", Seen::Invalid("")),
         Row(b"\x08\x00\x09\x00\x00\x00\x03/no", Seen::Invalid("/no")),
     ];
