@@ -1,3 +1,4 @@
 pub mod ReadLemmas
 pub mod PlayLemmas
+pub mod LengthLaws
 pub mod ServeLemmas

@@ -1,12 +1,14 @@
 -- What was read of a source, and what was kept of it.
 use Rattle.std.proofs.Common.{◌≡◌, ℕ, ◌+◌, ◌<◌, ◌≤◌, Bool, true, false, cond, List, [], ◌∷◌, ◌++◌, Option, IfSome, length, refl, ap, sym, subst, ◌∙◌, arith, append_assoc, append-nil, length-append, eq-eqb, inl, inr}
-use Rattle.std.specs.Prelude.{◌&&◌, zip}
+use Rattle.std.specs.Prelude.{◌&&◌, zip, Result, Ok, Err, IfOk, IfErr}
+use Rattle.std.specs.Global.{Vec}
 use Rattle.std.specs.List.{flat_map, list_all}
 use Rattle.std.specs.Io.KnownBytes.{prepend_known}
 use Rattle.jsh_io.specs.Count.{Rose}
 use Rattle.jsh_io.proofs.Known.{prepend_known-prepend_known, prepend_known-nil}
 use Rattle.jsh_snippet.specs.declared.acts.Entry.{Entry}
 use Rattle.jsh_replay.specs.Journal.{end_bytes, entry_bytes, front_bytes, header, journal_bytes, IsJournal}
+use Rattle.jsh_playback.specs.declared.halts.Halt.{Halt}
 use Rattle.jsh_playback.specs.declared.halts.Halt.TheVariants as halt
 use Rattle.jsh_playback.specs.Reading.{is_same, may_begin, most_journal, IsNoJournal, Keeps, Reads, ReadsNone, ReadsWhole}
 
@@ -29,8 +31,8 @@ begins kept rest history is =
     alike kept rest header (flat_map entry_bytes history ++ end_bytes history) (is.bytes_are ∙ append_assoc header (flat_map entry_bytes history) (end_bytes history))
 
 no_journal-begins : (kept read : List ℕ) → Keeps kept read → may_begin kept ≡ false → IsNoJournal read
-no_journal-begins kept read keeps no = λ history is.
-    let yes : may_begin kept ≡ true = begins kept keeps.rest history (subst (λ (bytes : List ℕ). IsJournal bytes history) keeps.front is) in
+no_journal-begins kept read keeps never = λ history is.
+    let may : may_begin kept ≡ true = begins kept keeps.rest history (subst (λ (bytes : List ℕ). IsJournal bytes history) keeps.front is) in
     absurd cc
 
 -- ---- what is kept
@@ -39,16 +41,16 @@ keeps-more : (kept read piece next : List ℕ) → Keeps kept read → next ≡ 
 keeps-more kept read piece next keeps is = by (may_begin kept) refl
   where
     by : (b : Bool) → may_begin kept ≡ b → Keeps next (read ++ piece)
-    by true yes =
-        let all : read ≡ kept = keeps.front ∙ ap (λ (rest : List ℕ). kept ++ rest) (keeps.all yes) ∙ append-nil kept in
-        let both : next ≡ kept ++ piece = is ∙ ap (λ (b : Bool). cond b (kept ++ piece) kept) yes in
+    by true may =
+        let all : read ≡ kept = keeps.front ∙ ap (λ (rest : List ℕ). kept ++ rest) (keeps.all may) ∙ append-nil kept in
+        let both : next ≡ kept ++ piece = is ∙ ap (λ (b : Bool). cond b (kept ++ piece) kept) may in
         record { rest = []; front = ap (λ (front : List ℕ). front ++ piece) all ∙ sym both ∙ sym (append-nil next); all = λ _. refl }
-    by false no =
-        let same : next ≡ kept = is ∙ ap (λ (b : Bool). cond b (kept ++ piece) kept) no in
+    by false never =
+        let same : next ≡ kept = is ∙ ap (λ (b : Bool). cond b (kept ++ piece) kept) never in
         record {
           rest = keeps.rest ++ piece;
           front = ap (λ (front : List ℕ). front ++ piece) keeps.front ∙ append_assoc kept keeps.rest piece ∙ ap (λ (front : List ℕ). front ++ (keeps.rest ++ piece)) (sym same);
-          all = λ yes. absurd (differ (sym (ap may_begin same ∙ no) ∙ yes));
+          all = λ may. absurd (differ (sym (ap may_begin same ∙ never) ∙ may));
         }
       where
         differ : false ≡ true → ⊥
@@ -125,19 +127,32 @@ ends given left next kept total r more none few = record {
 
 pub reads-none : (given left next : Option (List ℕ)) (kept : List ℕ) (total before after : ℕ) → IsReading given left kept total → left ≡ prepend_known [] next → IfSome left (λ (bytes : List ℕ). bytes ≡ []) → total ≤ most_journal →
     after ≡ before → may_begin kept ≡ false → ReadsNone halt.NoJournal given next before after
-reads-none given left next kept total before after r more none few same no = record {
+reads-none given left next kept total before after r more none few same never = record {
   read = r.read;
   ended = true;
   reads = ends given left next kept total r more none few;
-  cause = (same, inr (refl, subst (λ n. n ≤ most_journal) (sym r.count) few, no_journal-begins kept r.read r.keeps no));
+  cause = (same, inr (refl, subst (λ n. n ≤ most_journal) (sym r.count) few, no_journal-begins kept r.read r.keeps never));
 }
 
 pub reads-whole : (given left next : Option (List ℕ)) (kept bytes : List ℕ) (total before after : ℕ) → IsReading given left kept total → left ≡ prepend_known [] next → IfSome left (λ (bytes : List ℕ). bytes ≡ []) → total ≤ most_journal →
     after ≡ before → may_begin kept ≡ true → bytes ≡ kept → ReadsWhole bytes given next before after
-reads-whole given left next kept bytes total before after r more none few same yes is =
-    let all : r.read ≡ bytes = r.keeps.front ∙ ap (λ (rest : List ℕ). kept ++ rest) (r.keeps.all yes) ∙ append-nil kept ∙ sym is in
+reads-whole given left next kept bytes total before after r more none few same may is =
+    let all : r.read ≡ bytes = r.keeps.front ∙ ap (λ (rest : List ℕ). kept ++ rest) (r.keeps.all may) ∙ append-nil kept ∙ sym is in
     subst (λ (read : List ℕ). ReadsWhole read given next before after) all (record {
       reads = ends given left next kept total r more none few;
       few = subst (λ n. n ≤ most_journal) (sym r.count) few;
       counts = same;
     })
+
+-- ---- by what was answered
+
+pub whole-ok : (given left next : Option (List ℕ)) (kept : Vec ℕ) (total before after : ℕ) (answer : Result (Vec ℕ) Halt) → IsReading given left kept.items total → left ≡ prepend_known [] next → IfSome left (λ (bytes : List ℕ). bytes ≡ []) → total ≤ most_journal →
+    after ≡ before → IfOk answer (λ bytes. (bytes.items ≡ kept.items) × (may_begin kept.items ≡ true)) → IfOk answer (λ bytes. ReadsWhole bytes.items given next before after)
+whole-ok given left next kept total before after (Ok bytes) r more none few same h = reads-whole given left next kept.items bytes.items total before after r more none few same h.1 h.0
+whole-ok given left next kept total before after (Err why) r more none few same h = tt
+
+pub whole-err : (given left next : Option (List ℕ)) (kept : Vec ℕ) (total before after : ℕ) (answer : Result (Vec ℕ) Halt) → IsReading given left kept.items total → left ≡ prepend_known [] next → IfSome left (λ (bytes : List ℕ). bytes ≡ []) → total ≤ most_journal →
+    after ≡ before → IfErr answer (λ why. (why ≡ halt.NoJournal) × (may_begin kept.items ≡ false)) → IfErr answer (λ why. ReadsNone why given next before after)
+whole-err given left next kept total before after (Ok bytes) r more none few same h = tt
+whole-err given left next kept total before after (Err why) r more none few same h =
+    subst (λ (w : Halt). ReadsNone w given next before after) (sym h.0) (reads-none given left next kept.items total before after r more none few same h.1)

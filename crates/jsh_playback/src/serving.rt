@@ -30,12 +30,12 @@ pub fn serve<I: Source, O: Sink>(
         Ok(bytes) => bytes,
         Err(why) => return why.status(),
     };
-    let text = match play(alloc, &bytes) {
+    let text = match play(alloc, bytes.as_slice()) {
         Ok(text) => text,
         Err(JournalError::BadJournal { .. }) => return NO_JOURNAL,
         Err(JournalError::NoMemory) => return MEMORY_SHORT,
     };
-    match write_whole(sink, &text) {
+    match write_whole(sink, text.as_slice()) {
         Ok(()) => ALL_SERVED,
         Err(_failed) => WRITE_FAILED,
     }
