@@ -150,3 +150,8 @@ pub report-accepted : {I O : Type 0} (left : I → Option (List ℕ)) (reads : I
 report-accepted left reads held writes status None sink told name Fault replayed without missing = let is : status ≡ read_failed = (missing (without refl)).0 in λ e. omega (arith, is, e)
 report-accepted left reads held writes status (Some i) None told name Fault replayed without missing = let is : status ≡ read_failed = (missing refl).0 in λ e. omega (arith, is, e)
 report-accepted left reads held writes status (Some i) (Some o) told name Fault replayed without missing = replays-accepted status replayed.0 (left i) (held o) 0 (reads i) 0 (writes o) replayed.2
+
+-- a fact beside what holds of a sink
+pub beside-sink : {O : Type 0} (A : Type 0) (P : O → Type 0) (sink : Option O) → A → IfSome sink P → IfSome sink (λ (o : O). A × P o)
+beside-sink A P None a h = tt
+beside-sink A P (Some o) a h = (a, h)
