@@ -1,8 +1,11 @@
-//! The program `jsh`: it reads Java snippets from standard input and writes what is said to them.
+//! The program `jsh`: it reads Java snippets from standard input and writes what is said to them, or
+//! replays a journal.
 #![tactic(auto)]
 
 use jsh_io::{OpenGate, RealDesk};
+use jsh_playback::run_replay;
 use jsh_shell::{MEMORY_SHORT, run};
+use jsh_words::wants_replay;
 use std::alloc::Global;
 use std::env::args;
 use std::io;
@@ -43,6 +46,10 @@ fn main(rt: HostRuntime) -> ExitCode {
         Err(_refused) => return ExitCode::from(MEMORY_SHORT),
     };
     let mut desk = RealDesk::new(rt);
+    if wants_replay(words.as_slice()) {
+        let report = run_replay(rt.alloc(), words.as_slice(), &mut desk);
+        return ExitCode::from(report.status);
+    }
     let report = run(&rt, rt.alloc(), words.as_slice(), &mut desk, &OpenGate);
     ExitCode::from(report.status)
 }

@@ -1,20 +1,14 @@
 -- One client more.
-use Rattle.std.proofs.Common.{◌≡◌, ◌≤◌, ◌++◌, Bool, cond, List, [], ◌∷◌, ℕ, ap, sym, ◌∙◌, arith}
-use Rattle.std.specs.Prelude.{filter}
-use Rattle.std.specs.List.{range_with_len}
-use Rattle.std.specs.Global.{Vec}
+use Rattle.std.proofs.Common.{◌≡◌, ◌++◌, cond, List, [], ◌∷◌, ℕ, ap, sym, ◌∙◌, arith}
 use Rattle.jsh_playback.specs.Playing.{is_told}
 use Rattle.jsh_playback.proofs.PlayLemmas.{filter-numbers, filter-range_more}
 use Rattle.jsh_playback.proofs.told.told_clients.Goals as goal
-use Rattle.jsh_playback.proofs.told.told_clients.Goals.{then-is_told+in_ok-push, else-is_told}
 
 pub loop-client-preserved : goal.loop-client-preserved
 loop-client-preserved c =
-    let more = filter-range_more (is_told c.args.history.now) c.loop-client.client in
-    elim c.if-is_told.branch [
-      | then-is_told+in_ok-push w ↦ ?
-      | else-is_told w ↦ ?
-    ]
+    c.in_ok-push_told.ensures
+    ∙ ap (λ (clients : List ℕ). clients ++ cond (is_told c.args.history.now c.loop-client.client) (c.loop-client.client ∷ []) []) c.loop-client.invariant
+    ∙ sym (filter-range_more (is_told c.args.history.now) c.loop-client.client)
 
 pub returns : goal.returns
 returns c =
