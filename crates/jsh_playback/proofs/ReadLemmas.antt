@@ -50,11 +50,8 @@ keeps-more kept read piece next keeps is = by (may_begin kept) refl
         record {
           rest = keeps.rest ++ piece;
           front = ap (λ (front : List ℕ). front ++ piece) keeps.front ∙ append_assoc kept keeps.rest piece ∙ ap (λ (front : List ℕ). front ++ (keeps.rest ++ piece)) (sym same);
-          all = λ may. absurd (differ (sym (ap may_begin same ∙ never) ∙ may));
+          all = λ may. let differ : false ≡ true = sym (ap may_begin same ∙ never) ∙ may in absurd cc;
         }
-      where
-        differ : false ≡ true → ⊥
-        differ e = cc
 
 -- so much was read, and this was kept of it
 pub record IsReading (given left : Option (List ℕ)) (kept : List ℕ) (total : ℕ) : Type 0 where

@@ -24,8 +24,7 @@ replays-none why status given left held before after writes empty r is = record 
     by : (why : Halt) → status ≡ status_of why → IsCause why r.read r.ended before after → Ends status r.read r.ended held before after writes writes
     by halt.NoMemory is same = short is empty same refl
     by halt.SourceFailed is failed = unread is failed.0 failed.1 empty failed.2 refl
-    by halt.NoJournal is (same, inl many) = too_long is many empty same refl
-    by halt.NoJournal is (same, inr never) = none is never.0 never.1 never.2 empty same refl
+    by halt.NoJournal is cause = elim cause.1 [ inl many ↦ too_long is many empty cause.0 refl | inr never ↦ none is never.0 never.1 never.2 empty cause.0 refl ]
 
 -- all was read, and it is no journal
 pub replays-bad : (read : List ℕ) (given left held : Option (List ℕ)) (before after writes : ℕ) → IsEmptyWhereTold held → ReadsWhole read given left before after → IsNoJournal read →
@@ -101,8 +100,11 @@ rose-later a b c below after rose = λ less. by less rose (ltb b (2 ^ 64 - 1)) r
 
 -- what was read of these bytes is a front of them, and all where nothing is left
 front-read : (bytes read : List ℕ) (left : Option (List ℕ)) → Some bytes ≡ prepend_known read left → (rest : List ℕ) × (left ≡ Some rest) × (bytes ≡ read ++ rest)
-front-read bytes read None e = cc
-front-read bytes read (Some rest) e = (rest, refl, cc)
+front-read bytes read None e = let never : Some bytes ≡ None = e in absurd cc
+front-read bytes read (Some rest) e =
+    let both : Some bytes ≡ Some (read ++ rest) = e in
+    let parts : bytes ≡ read ++ rest = cc in
+    (rest, refl, parts)
 
 ends-healthy : (status : ℕ) (read bytes rest : List ℕ) (ended : Bool) (held : Option (List ℕ)) (a b c d : ℕ) (history : List Entry) → Ends status read ended held a b c d → bytes ≡ read ++ rest → (ended ≡ true → rest ≡ []) →
     IsJournal bytes history → length bytes ≤ most_journal → (Rose a b → ⊥) → (Rose c d → ⊥) → (status ≡ all_served) ⊎ (status ≡ memory_short)
