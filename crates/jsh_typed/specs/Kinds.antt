@@ -376,6 +376,11 @@ on_group group scope place = all_fit scope place group.statements
 abbrev pub statement_fits : Statement → Fits
 statement_fits = fold-Statement Fits Fits Fits on_statement on_catch on_group
 
+-- the text of a value is a text
+abbrev pub is_text_result : Option ResolvedType → Bool
+is_text_result (Some t) = is_text t
+is_text_result None = false
+
 -- a body is well-typed: its parameters are slots, and its code gives its result
 unfoldable pub kinds : List HierarchyEntry → Body → Bool
 kinds hierarchy body = nat_le body.params (length body.slots) && gives body.code
@@ -390,3 +395,4 @@ kinds hierarchy body = nat_le body.params (length body.slots) && gives body.code
         by : Option ResolvedType → Bool
         by (Some t) = is_of (typing e scope) t
         by None = is_void (typing e scope)
+    gives (code.Shown t e) = is_of (typing e scope) t && is_text_result body.result

@@ -107,6 +107,11 @@ pub enum BodyCode {
     Statements(Seq<Statement>),
     /// The value of this expression is the result.
     Value(Expression),
+    /// The text of this expression's value is the result, as a run gives it.
+    Shown {
+        of: ResolvedType,
+        value: Expression,
+    },
 }
 
 impl Body {

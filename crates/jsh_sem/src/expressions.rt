@@ -1,0 +1,429 @@
+//! What expressions come to: operands from left to right, each once.
+
+ghost use Rattle.std.specs.Prelude.{◌≡◌, [], map, Some, None, option_copied};
+ghost use Rattle.jsh_sem.specs.Expressions as spec;
+ghost use Rattle.jsh_sem.specs.Meets.{Meets};
+
+use crate::copies::{copied_class, copied_link, copied_type, copied_types};
+use crate::arrays::{arrays_or_raise, new_array, set_element};
+use crate::frame::Frame;
+use crate::methods::{library, operated, text_of_any};
+use crate::outcome::{Place, Stop};
+use crate::place::{element, field, get_var, length_of, load, store};
+use crate::request::Request;
+use crate::text_methods::text_call;
+use crate::wanted::{boolean_of, count, int_of, number_as, object_of, reference_of, unary};
+use jsh_text::Value;
+use jsh_tree::{Link, Name, Seq};
+use jsh_typed::{
+    BinaryOperation, ClassName, Expression, MethodName, ResolvedType, Start, Step, Target,
+    TextMethod,
+};
+
+/// What an expression comes to. One without a value gives null, or what its request is answered.
+#[cycle(expression)]
+pub fn evaluated(frame: &mut Frame, expression: &Expression) -> Result<Value, Stop>
+    ensures { Meets (spec.evaluated expression.now frame.old) frame.new result }
+{
+    let value = start_value(frame, &expression.start)?;
+    after(frame, expression.steps.as_slice(), value)
+}
+
+/// The truth of a condition.
+#[cycle(expression)]
+pub fn truth(frame: &mut Frame, expression: &Expression) -> Result<bool, Stop>
+    ensures { Meets (spec.truth (spec.evaluated expression.now) frame.old) frame.new result }
+{
+    let value = evaluated(frame, expression)?;
+    Ok(boolean_of(&value)?)
+}
+
+/// What steps make of a value, in turn.
+#[cycle(expression)]
+pub fn after(frame: &mut Frame, steps: &[Step], first: Value) -> Result<Value, Stop>
+    ensures { Meets (spec.after (map spec.step_value steps.now) first frame.old) frame.new result }
+{
+    let mut value = first;
+    for step in steps {
+        value = step_value(frame, step, value)?;
+    }
+    Ok(value)
+}
+
+#[cycle(expression)]
+fn all_of(frame: &mut Frame, expressions: &[Expression]) -> Result<Seq<Value>, Stop>
+    ensures { Meets (spec.all_of (map spec.evaluated expressions.now) frame.old) frame.new result }
+{
+    let mut values = Vec::new(frame.alloc());
+    for expression in expressions {
+        let value = evaluated(frame, expression)?;
+        values.push(value)?;
+    }
+    Ok(Seq::from_vec(values))
+}
+
+#[cycle(expression)]
+fn start_value(frame: &mut Frame, start: &Start) -> Result<Value, Stop>
+    ensures { Meets (spec.start_value start.now frame.old) frame.new result }
+{
+    match start {
+        Start::Constant(value) => Ok(value.copy()?),
+        Start::This(_) => frame.this_object(),
+        Start::Local { slot, .. } => frame.local(*slot),
+        Start::Variable { link, .. } => get_var(frame, link),
+        Start::Conditional { condition, yes, no } => {
+            conditional(frame, condition.get(), yes.get(), no.get())
+        }
+        Start::Assign { target, value } => assign(frame, target, value.get()),
+        Start::Update {
+            target,
+            steps,
+            gives_old,
+        } => update(frame, target, steps.as_slice(), *gives_old),
+        Start::Call {
+            link,
+            arguments,
+            ..
+        } => call(frame, link, arguments.as_slice()),
+        Start::SuperCall { method, arguments } => super_call(frame, method, arguments.as_slice()),
+        Start::LibraryCall {
+            function,
+            arguments,
+        } => {
+            let values = all_of(frame, arguments.as_slice())?;
+            library(frame, *function, values.as_slice())
+        }
+        Start::New {
+            class,
+            params,
+            arguments,
+        } => new_object(frame, class, params, arguments.as_slice()),
+        Start::Construct {
+            class,
+            params,
+            arguments,
+        } => construct(frame, class, params, arguments.as_slice()),
+        Start::NewArray { of, sizes } => new_arrays(frame, of, sizes.as_slice()),
+        Start::ArrayOf { of, values } => array_of(frame, of, values.as_slice()),
+    }
+}
+
+#[cycle(expression)]
+#[inline(never)]
+fn conditional(
+    frame: &mut Frame,
+    condition: &Expression,
+    yes: &Expression,
+    no: &Expression,
+) -> Result<Value, Stop>
+    ensures { Meets (spec.conditional (spec.evaluated condition.now) (spec.evaluated yes.now) (spec.evaluated no.now) frame.old) frame.new result }
+{
+    if truth(frame, condition)? {
+        evaluated(frame, yes)
+    } else {
+        evaluated(frame, no)
+    }
+}
+
+#[cycle(expression)]
+#[inline(never)]
+fn assign(frame: &mut Frame, target: &Target, expression: &Expression) -> Result<Value, Stop>
+    ensures { Meets (spec.assign (spec.target_place target.now) (spec.evaluated expression.now) frame.old) frame.new result }
+{
+    let to = target_place(frame, target)?;
+    let value = evaluated(frame, expression)?;
+    store(frame, to, value)
+}
+
+#[cycle(expression)]
+#[inline(never)]
+fn update(
+    frame: &mut Frame,
+    target: &Target,
+    steps: &[Step],
+    gives_old: bool,
+) -> Result<Value, Stop>
+    ensures { Meets (spec.update (spec.target_place target.now) (map spec.step_value steps.now) gives_old frame.old) frame.new result }
+{
+    let to = target_place(frame, target)?;
+    let old = load(frame, &to)?;
+    let new = after(frame, steps, old.copy()?)?;
+    let stored = store(frame, to, new)?;
+    if gives_old { Ok(old) } else { Ok(stored) }
+}
+
+/// The parts of a target are evaluated, and nothing is checked yet (JLS 15.26.1).
+#[cycle(expression)]
+#[inline(never)]
+fn target_place(frame: &mut Frame, target: &Target) -> Result<Place, Stop>
+    ensures { Meets (spec.target_place target.now frame.old) frame.new result }
+{
+    match target {
+        Target::Local { slot, .. } => Ok(Place::Local(*slot)),
+        Target::Variable { link, .. } => Ok(Place::Variable(copied_link(link)?)),
+        Target::Field {
+            object,
+            class,
+            name,
+            ..
+        } => {
+            let object = evaluated(frame, object.get())?;
+            Ok(Place::Field {
+                object,
+                class: copied_link(class)?,
+                name: name.clone()?,
+            })
+        }
+        Target::Element { array, index } => {
+            let array = evaluated(frame, array.get())?;
+            let index = evaluated(frame, index.get())?;
+            Ok(Place::Element { array, index })
+        }
+    }
+}
+
+#[cycle(expression)]
+#[inline(never)]
+fn call(frame: &mut Frame, link: &Link, arguments: &[Expression]) -> Result<Value, Stop>
+    ensures { Meets (spec.call link.now (map spec.evaluated arguments.now) frame.old) frame.new result }
+{
+    let values = all_of(frame, arguments)?;
+    frame.ask(Request::Call {
+        link: copied_link(link)?,
+        arguments: values,
+    })
+}
+
+/// A method of the superclass, or a constructor, on `this`.
+#[cycle(expression)]
+#[inline(never)]
+fn direct(
+    frame: &mut Frame,
+    class: &ClassName,
+    name: Option<&Name>,
+    params: &Seq<ResolvedType>,
+    arguments: &[Expression],
+) -> Result<Value, Stop>
+    ensures { Meets (spec.on_this class.now (option_copied name) params.now (map spec.evaluated arguments.now) frame.old) frame.new result }
+{
+    let found = frame.this_object()?;
+    let values = all_of(frame, arguments)?;
+    let object = object_of(found)?;
+    direct_on(frame, class, name, params, object, values)
+}
+
+fn direct_on(
+    frame: &mut Frame,
+    class: &ClassName,
+    name: Option<&Name>,
+    params: &Seq<ResolvedType>,
+    object: Value,
+    values: Seq<Value>,
+) -> Result<Value, Stop>
+    ensures { Meets (spec.direct class.now (option_copied name) params.now object values frame.old) frame.new result }
+{
+    let name = match name {
+        Some(name) => Some(name.clone()?),
+        None => None,
+    };
+    frame.ask(Request::Direct {
+        class: copied_class(class)?,
+        name,
+        params: copied_types(params)?,
+        object,
+        arguments: values,
+    })
+}
+
+#[cycle(expression)]
+fn super_call(
+    frame: &mut Frame,
+    method: &MethodName,
+    arguments: &[Expression],
+) -> Result<Value, Stop>
+    ensures { Meets (spec.on_this method.now.class (Some method.now.name) method.now.params (map spec.evaluated arguments.now) frame.old) frame.new result }
+{
+    direct(
+        frame,
+        &method.class,
+        Some(&method.name),
+        &method.params,
+        arguments,
+    )
+}
+
+#[cycle(expression)]
+fn construct(
+    frame: &mut Frame,
+    class: &ClassName,
+    params: &Seq<ResolvedType>,
+    arguments: &[Expression],
+) -> Result<Value, Stop>
+    ensures { Meets (spec.on_this class.now None params.now (map spec.evaluated arguments.now) frame.old) frame.new result }
+{
+    direct(frame, class, None, params, arguments)
+}
+
+/// The object is made before its arguments are evaluated.
+#[cycle(expression)]
+#[inline(never)]
+fn new_object(
+    frame: &mut Frame,
+    class: &ClassName,
+    params: &Seq<ResolvedType>,
+    arguments: &[Expression],
+) -> Result<Value, Stop>
+    ensures { Meets (spec.new_object class.now params.now (map spec.evaluated arguments.now) frame.old) frame.new result }
+{
+    let found = frame.ask(Request::NewObject(copied_class(class)?))?;
+    let object = object_of(found)?;
+    let values = all_of(frame, arguments)?;
+    direct_on(frame, class, None, params, object.copy()?, values)?;
+    Ok(object)
+}
+
+#[cycle(expression)]
+#[inline(never)]
+fn new_arrays(frame: &mut Frame, of: &ResolvedType, sizes: &[Expression]) -> Result<Value, Stop>
+    ensures { Meets (spec.sized of.now (map spec.evaluated sizes.now) frame.old) frame.new result }
+{
+    let lengths = ints_of(frame, sizes)?;
+    arrays_or_raise(frame, of, lengths.as_slice())
+}
+
+#[cycle(expression)]
+fn ints_of(frame: &mut Frame, expressions: &[Expression]) -> Result<Seq<i32>, Stop>
+    ensures { Meets (spec.ints_behind [] (map spec.evaluated expressions.now) frame.old) frame.new result }
+{
+    let mut numbers = Vec::new(frame.alloc());
+    for expression in expressions {
+        let value = evaluated(frame, expression)?;
+        numbers.push(int_of(&value)?)?;
+    }
+    Ok(Seq::from_vec(numbers))
+}
+
+/// Each value is stored before the next one is evaluated (JLS 10.6).
+#[cycle(expression)]
+#[inline(never)]
+fn array_of(frame: &mut Frame, of: &ResolvedType, values: &[Expression]) -> Result<Value, Stop>
+    ensures { Meets (spec.array_of of.now (map spec.evaluated values.now) frame.old) frame.new result }
+{
+    let array = new_array(frame, of, count(values.len()))?;
+    for (place, value) in values.iter().enumerate() {
+        let value = evaluated(frame, value)?;
+        set_element(frame, &array, count(place), &value)?;
+    }
+    Ok(array)
+}
+
+#[cycle(expression)]
+fn step_value(frame: &mut Frame, step: &Step, value: Value) -> Result<Value, Stop>
+    ensures { Meets (spec.step_value step.now value frame.old) frame.new result }
+{
+    match step {
+        Step::Widen(to) | Step::Narrow(to) => Ok(number_as(*to, &value)?),
+        Step::ToText => text_of_any(frame, value),
+        Step::Upcast(_) => Ok(value),
+        Step::CastTo(of) => cast(frame, of, value),
+        Step::InstanceOf(of) => instance(frame, of, value),
+        Step::Unary(operation) => Ok(unary(*operation, &value)?),
+        Step::Binary { operation, right } => binary(frame, *operation, right, value),
+        Step::Field { class, name, .. } => field(frame, value, class, name),
+        Step::Element { index } => {
+            let at = evaluated(frame, index)?;
+            element(frame, value, &at)
+        }
+        Step::Length => length_of(frame, value),
+        Step::Call { method, arguments } => {
+            virtual_call(frame, method, arguments.as_slice(), value)
+        }
+        Step::TextCall { method, arguments } => {
+            text_method(frame, *method, arguments.as_slice(), value)
+        }
+    }
+}
+
+#[inline(never)]
+fn cast(frame: &mut Frame, of: &ResolvedType, value: Value) -> Result<Value, Stop>
+    ensures { Meets (spec.cast of.now value frame.old) frame.new result }
+{
+    let reference = reference_of(value.copy()?)?;
+    frame.ask(Request::CastTo {
+        value: reference,
+        of: copied_type(of)?,
+    })?;
+    Ok(value)
+}
+
+#[inline(never)]
+fn instance(frame: &mut Frame, of: &ResolvedType, value: Value) -> Result<Value, Stop>
+    ensures { Meets (spec.instance of.now value frame.old) frame.new result }
+{
+    let reference = reference_of(value)?;
+    frame.ask(Request::Instance {
+        value: reference,
+        of: copied_type(of)?,
+    })
+}
+
+/// The right operand of `&&` and `||` is evaluated only where it counts.
+#[cycle(expression)]
+#[inline(never)]
+fn binary(
+    frame: &mut Frame,
+    operation: BinaryOperation,
+    right: &Expression,
+    left: Value,
+) -> Result<Value, Stop>
+    ensures { Meets (spec.binary operation (spec.evaluated right.now) left frame.old) frame.new result }
+{
+    match operation {
+        BinaryOperation::AndAlso => {
+            let holds = boolean_of(&left)? && truth(frame, right)?;
+            Ok(Value::Boolean(holds))
+        }
+        BinaryOperation::OrElse => {
+            let holds = boolean_of(&left)? || truth(frame, right)?;
+            Ok(Value::Boolean(holds))
+        }
+        _ => {
+            let right = evaluated(frame, right)?;
+            operated(frame, operation, left, right)
+        }
+    }
+}
+
+#[cycle(expression)]
+#[inline(never)]
+fn virtual_call(
+    frame: &mut Frame,
+    method: &MethodName,
+    arguments: &[Expression],
+    value: Value,
+) -> Result<Value, Stop>
+    ensures { Meets (spec.virtual_call method.now (map spec.evaluated arguments.now) value frame.old) frame.new result }
+{
+    let values = all_of(frame, arguments)?;
+    let object = reference_of(value)?;
+    frame.ask(Request::Virtual {
+        object,
+        name: method.name.clone()?,
+        params: copied_types(&method.params)?,
+        arguments: values,
+    })
+}
+
+#[cycle(expression)]
+#[inline(never)]
+fn text_method(
+    frame: &mut Frame,
+    method: TextMethod,
+    arguments: &[Expression],
+    value: Value,
+) -> Result<Value, Stop>
+    ensures { Meets (spec.text_method method (map spec.evaluated arguments.now) value frame.old) frame.new result }
+{
+    let values = all_of(frame, arguments)?;
+    text_call(frame, method, value, values.as_slice())
+}
