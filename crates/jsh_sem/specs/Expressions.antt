@@ -1,12 +1,10 @@
 -- What expressions come to (JLS 15): operands from left to right, each once.
-use Rattle.std.specs.Prelude.{ℕ, zero, suc, ◌-◌, ◌++◌, ℤ, pos, negsuc, Bool, true, false, int_lt, if◌then◌else◌, List, [], ◌∷◌, codes, length, map, Option, Some, None}
-use Rattle.std.specs.Fmt.{signed_decimal}
+use Rattle.std.specs.Prelude.{ℕ, suc, ◌++◌, ℤ, Bool, true, false, if◌then◌else◌, List, [], ◌∷◌, length, map, Option, Some, None}
 use Rattle.jsh_text.specs.declared.value.Value.{Value}
 use Rattle.jsh_text.specs.declared.value.Value.TheVariants as value
 use Rattle.jsh_tree.specs.declared.key.Link.{Link}
 use Rattle.jsh_typed.specs.declared.types.ClassName.{ClassName}
 use Rattle.jsh_typed.specs.declared.types.ResolvedType.{ResolvedType}
-use Rattle.jsh_typed.specs.declared.types.ResolvedType.TheVariants as type
 use Rattle.jsh_typed.specs.declared.operation.BinaryOperation.{BinaryOperation}
 use Rattle.jsh_typed.specs.declared.operation.BinaryOperation.TheVariants as between
 use Rattle.jsh_typed.specs.declared.expression.Expression.{Expression}
@@ -17,13 +15,15 @@ use Rattle.jsh_typed.specs.declared.expression.MethodName.{MethodName}
 use Rattle.jsh_typed.specs.declared.expression.Step.{Step}
 use Rattle.jsh_typed.specs.declared.expression.Target.{Target}
 use Rattle.jsh_typed.specs.declared.expression.TextMethod.{TextMethod}
-use Rattle.jsh_sem.specs.declared.outcome.Place.{Place}
-use Rattle.jsh_sem.specs.declared.outcome.Place.TheVariants as place
-use Rattle.jsh_sem.specs.declared.request.Request.TheVariants as request
-use Rattle.jsh_sem.specs.Flow.{Eval, gives, ◌>>=◌, kinded, ask, raise, this_object, local, set_local}
-use Rattle.jsh_sem.specs.Wanted.{int_of, boolean_of, object_of, reference_of, count, number_as, unary}
-use Rattle.jsh_sem.specs.Methods.{text_of_any, operated, library}
-use Rattle.jsh_sem.specs.TextMethods.{text_call}
+use Rattle.jsh_sem_values.specs.declared.outcome.Place.{Place}
+use Rattle.jsh_sem_values.specs.declared.outcome.Place.TheVariants as place
+use Rattle.jsh_sem_values.specs.declared.request.Request.TheVariants as request
+use Rattle.jsh_sem_values.specs.Flow.{Eval, gives, ◌>>=◌, kinded, ask, this_object, local}
+use Rattle.jsh_sem_values.specs.Wanted.{int_of, boolean_of, object_of, reference_of, count, number_as, unary}
+use Rattle.jsh_sem_values.specs.Methods.{text_of_any, operated, library}
+use Rattle.jsh_sem_values.specs.TextMethods.{text_call}
+use Rattle.jsh_sem_values.specs.Places.{element, length_of, field, load, store}
+use Rattle.jsh_sem_values.specs.Arrays.{new_array, set_element, arrays_or_raise}
 
 -- what an expression is, and what a step makes of a value
 abbrev pub Whole : Type 0
@@ -60,106 +60,6 @@ after [] v = gives v
 after (step ∷ steps) v = do
   w ← step v
   after steps w
-
--- the value of an element: null and range are checked by the step
-abbrev pub element : Value → Value → Eval Value
-element v w = do
-  array ← kinded (object_of v)
-  index ← kinded (int_of w)
-  ask (request.GetElement array index)
-
-abbrev pub length_of : Value → Eval Value
-length_of v = do
-  array ← kinded (object_of v)
-  ask (request.Length array)
-
-abbrev pub field : Value → Link → List ℕ → Eval Value
-field v owner name = do
-  object ← kinded (object_of v)
-  ask (request.GetField object owner name)
-
--- what stands at a place
-abbrev pub load : Place → Eval Value
-load (place.Local slot) = local slot
-load (place.Variable link) = ask (request.GetVar link)
-load (place.Field v owner name) = field v owner name
-load (place.Element v w) = element v w
-
--- the value is stored, and given: null, range and the store's own check are the step's
-abbrev pub store : Place → Value → Eval Value
-store (place.Local slot) x = set_local slot x
-store (place.Variable link) x = do
-  _ ← ask (request.SetVar link x)
-  gives x
-store (place.Field v owner name) x = do
-  object ← kinded (object_of v)
-  _ ← ask (request.SetField object owner name x)
-  gives x
-store (place.Element v w) x = do
-  array ← kinded (object_of v)
-  index ← kinded (int_of w)
-  _ ← ask (request.SetElement array index x)
-  gives x
-
--- for each number from one on, so many of them
-abbrev pub each : (ℕ → Eval Value) → ℕ → ℕ → Eval Value
-each act from zero = gives value.Null
-each act from (suc left) = do
-  _ ← act from
-  each act (suc from) left
-
--- the type of an array's elements
-abbrev pub inner_type : ResolvedType → ResolvedType
-inner_type type.Null = type.Null
-inner_type (type.Of a dims) = type.Of a (dims - 1)
-
-abbrev pub nat_of : ℤ → ℕ
-nat_of (pos n) = n
-nat_of (negsuc n) = 0
-
--- a new array of this type
-abbrev pub new_array : ResolvedType → ℤ → Eval Value
-new_array t n = do
-  v ← ask (request.NewArray t n)
-  kinded (object_of v)
-
--- an element of a new array gets a value
-abbrev pub set_element : Value → ℤ → Value → Eval Value
-set_element array index v = ask (request.SetElement array index v)
-
--- one inner array, with what fills it: it is stored in its place before it is filled (JLS 15.10.2)
-abbrev pub fill_one : (ResolvedType → ℕ → Value → Eval Value) → ResolvedType → ℤ → Value → ℕ → Eval Value
-fill_one fills t m array index = do
-  inner ← new_array t m
-  _ ← set_element array (count index) inner
-  fills t (nat_of m) inner
-
--- the inner arrays, of these lengths, of an array of so many elements, in order
-abbrev pub fill : List ℤ → ResolvedType → ℕ → Value → Eval Value
-fill [] t n array = gives array
-fill (m ∷ ms) t n array = do
-  _ ← each (fill_one (fill ms) (inner_type t) m array) 0 n
-  gives array
-
--- arrays of these lengths: the outer one first
-abbrev pub new_arrays : ResolvedType → List ℤ → Eval Value
-new_arrays t [] = gives value.Null
-new_arrays t (n ∷ ns) = do
-  array ← new_array t n
-  fill ns t (nat_of n) array
-
--- the first negative length
-abbrev pub first_negative : List ℤ → Option ℤ
-first_negative [] = None
-first_negative (n ∷ ns) = if int_lt n (pos 0) then Some n else first_negative ns
-
--- a negative length is refused before any array is made
-abbrev pub arrays_or_raise : ResolvedType → List ℤ → Eval Value
-arrays_or_raise t ns = by (first_negative ns)
-  where
-    by : Option ℤ → Eval Value
-    by (Some n) = raise (codes "NegativeArraySizeException") (Some (signed_decimal n))
-    by None = new_arrays t ns
 
 -- the elements of a new array, from a place on: each value is stored before the next one is evaluated (JLS 10.6)
 abbrev pub fill_with : Value → ℕ → List Whole → Eval Value

@@ -1,9 +1,3 @@
 pub mod Expressions
-pub mod Flow
-pub mod Meets
-pub mod Methods
 pub mod Next
 pub mod Statements
-pub mod TextMethods
-pub mod Texts
-pub mod Wanted

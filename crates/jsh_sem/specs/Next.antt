@@ -11,15 +11,15 @@ use Rattle.jsh_typed.specs.declared.expression.Expression.{Expression}
 use Rattle.jsh_typed.specs.declared.statement.Body.{Body}
 use Rattle.jsh_typed.specs.declared.statement.BodyCode.{BodyCode}
 use Rattle.jsh_typed.specs.declared.statement.BodyCode.TheVariants as code
-use Rattle.jsh_sem.specs.declared.request.Request.TheVariants as request
-use Rattle.jsh_sem.specs.declared.request.Answer.{Answer}
-use Rattle.jsh_sem.specs.declared.request.Next.{Next}
-use Rattle.jsh_sem.specs.declared.request.Next.TheVariants as next_
+use Rattle.jsh_sem_values.specs.declared.request.Request.TheVariants as request
+use Rattle.jsh_sem_values.specs.declared.request.Answer.{Answer}
+use Rattle.jsh_sem.specs.declared.outcome.Next.{Next}
+use Rattle.jsh_sem.specs.declared.outcome.Next.TheVariants as next_
 use Rattle.jsh_sem.specs.declared.outcome.Completion.{Completion}
 use Rattle.jsh_sem.specs.declared.outcome.Completion.TheVariants as completion
-use Rattle.jsh_sem.specs.Flow.{State, Flow, Done, Threw, Needs, Wrong, Eval, gives, ◌>>=◌, ask}
-use Rattle.jsh_sem.specs.Texts.{value_text}
-use Rattle.jsh_sem.specs.Methods.{text_answered, text_of_any}
+use Rattle.jsh_sem_values.specs.Flow.{State, Flow, Done, Threw, Needs, Wrong, Eval, gives, ◌>>=◌, ask}
+use Rattle.jsh_sem_values.specs.Texts.{value_text}
+use Rattle.jsh_sem_values.specs.Methods.{text_answered, text_of_any}
 use Rattle.jsh_sem.specs.Expressions.{evaluated}
 use Rattle.jsh_sem.specs.Statements.{executed, in_turn}
 

@@ -18,13 +18,13 @@ use Rattle.jsh_typed.specs.declared.statement.SwitchLabel.TheVariants as label
 use Rattle.jsh_typed.specs.declared.statement.Statement.{Statement}
 use Rattle.jsh_typed.specs.declared.statement.Statement.TheOpen.{Statement-F, CatchClause-F, SwitchGroup-F}
 use Rattle.jsh_typed.specs.declared.statement.Statement.TheFolds.{fold-Statement}
-use Rattle.jsh_sem.specs.declared.request.Request.TheVariants as request
+use Rattle.jsh_sem_values.specs.declared.request.Request.TheVariants as request
 use Rattle.jsh_sem.specs.declared.outcome.Each.{Each}
 use Rattle.jsh_sem.specs.declared.outcome.Completion.{Completion}
 use Rattle.jsh_sem.specs.declared.outcome.Completion.TheVariants as completion
-use Rattle.jsh_sem.specs.Flow.{State, Flow, Done, Threw, Needs, Wrong, Eval, gives, throws, ◌>>=◌, kinded, ask, local, set_local}
-use Rattle.jsh_sem.specs.Wanted.{wrong, int_of, boolean_of}
-use Rattle.jsh_sem.specs.Methods.{null_pointer}
+use Rattle.jsh_sem_values.specs.Flow.{State, Flow, Done, Threw, Needs, Wrong, Eval, gives, throws, ◌>>=◌, kinded, ask, local, set_local}
+use Rattle.jsh_sem_values.specs.Wanted.{wrong, int_of, boolean_of}
+use Rattle.jsh_sem_values.specs.Methods.{null_pointer}
 use Rattle.jsh_sem.specs.Expressions.{evaluated, truth, step_value, after, length_of, element as element_at}
 
 -- what a statement is, what a catch clause does with a throwable if it takes it, and a group of a `switch`

@@ -2,17 +2,13 @@
 
 ghost use Rattle.std.specs.Prelude.{◌≡◌, [], map, Some, None, option_copied};
 ghost use Rattle.jsh_sem.specs.Expressions as spec;
-ghost use Rattle.jsh_sem.specs.Meets.{Meets};
+ghost use Rattle.jsh_sem_values.specs.Meets.{Meets};
 
-use crate::copies::{copied_class, copied_link, copied_type, copied_types};
-use crate::arrays::{arrays_or_raise, new_array, set_element};
-use crate::frame::Frame;
-use crate::methods::{library, operated, text_of_any};
-use crate::outcome::{Place, Stop};
-use crate::place::{element, field, get_var, length_of, load, store};
-use crate::request::Request;
-use crate::text_methods::text_call;
-use crate::wanted::{boolean_of, count, int_of, number_as, object_of, reference_of, unary};
+use jsh_sem_values::{
+    Frame, Place, Request, Stop, arrays_or_raise, boolean_of, copied_class, copied_link, copied_type,
+    copied_types, count, element, field, get_var, int_of, length_of, library, load, new_array,
+    number_as, object_of, operated, reference_of, set_element, store, text_call, text_of_any, unary,
+};
 use jsh_text::Value;
 use jsh_tree::{Link, Name, Seq};
 use jsh_typed::{

@@ -1,16 +1,13 @@
 //! What a body comes to with its arguments and the answers so far.
 
 ghost use Rattle.std.specs.Prelude.{◌≡◌, IfOk};
-ghost use Rattle.jsh_sem.specs.Meets.{Meets};
+ghost use Rattle.jsh_sem_values.specs.Meets.{Meets};
 ghost use Rattle.jsh_sem.specs.Next as spec;
 
 use crate::expressions::evaluated;
-use crate::frame::Frame;
-use crate::methods::{text_answered, text_of_any};
-use crate::outcome::{Completion, Stop};
-use crate::request::{Answer, Next, Request};
+use crate::outcome::{Completion, Next};
 use crate::statements::in_turn;
-use crate::texts::value_text;
+use jsh_sem_values::{Answer, Frame, Request, Stop, text_answered, text_of_any, value_text};
 use jsh_text::{NoMemory, Value};
 use jsh_tree::Link;
 use jsh_typed::{Body, BodyCode, Element, ResolvedType};

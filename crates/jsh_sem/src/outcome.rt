@@ -1,16 +1,7 @@
-//! What parts of a body come to, on the way.
+//! What a body comes to, how statements end, and where an enhanced `for` keeps what it goes over.
 
-use crate::request::Request;
-use jsh_text::{KindName, NoMemory, Value};
-use jsh_tree::{Link, Name};
-use std::alloc::{AllocError, AllocFailed};
-
-/// A value is of another kind than an operation wants.
-#[derive(Clone, Copy, Debug, PartialEq, Eq)]
-pub struct WrongKind {
-    pub wanted: KindName,
-    pub found: KindName,
-}
+use jsh_sem_values::Request;
+use jsh_text::{KindName, Value};
 
 /// How a statement ends (JLS 14.1), where it doesn't throw.
 #[derive(Drop)]
@@ -21,22 +12,6 @@ pub enum Completion {
     Returned(Option<Value>),
 }
 
-/// A target whose parts are evaluated, and not checked yet.
-#[derive(Drop)]
-pub enum Place {
-    Local(u32),
-    Variable(Link),
-    Field {
-        object: Value,
-        class: Link,
-        name: Name,
-    },
-    Element {
-        array: Value,
-        index: Value,
-    },
-}
-
 /// The slots of an enhanced `for`: of its array, of the next index and of its variable.
 #[derive(Clone, Copy, Debug, PartialEq, Eq)]
 pub struct Each {
@@ -45,57 +20,13 @@ pub struct Each {
     pub slot: u32,
 }
 
-/// Why a part has no result.
+/// What a body comes to with its answers so far.
 #[derive(Drop)]
-pub enum Stop {
-    NoMemory,
-    /// The number of the throwable.
-    Threw(u32),
-    /// There is no answer to the request yet.
+pub enum Next {
     Needs(Request),
-    Wrong(WrongKind),
-}
-
-impl From<NoMemory> for Stop {
-    ghost use Rattle.std.specs.Prelude.{◌≡◌};
-    ghost use Rattle.jsh_sem.specs.declared.outcome.Stop.TheVariants.{NoMemory};
-
-    ghost from_gives = { λ _ e. e ≡ NoMemory };
-
-    fn from(_: NoMemory) -> Stop {
-        Stop::NoMemory
-    }
-}
-
-impl From<AllocError> for Stop {
-    ghost use Rattle.std.specs.Prelude.{◌≡◌};
-    ghost use Rattle.jsh_sem.specs.declared.outcome.Stop.TheVariants.{NoMemory};
-
-    ghost from_gives = { λ _ e. e ≡ NoMemory };
-
-    fn from(_: AllocError) -> Stop {
-        Stop::NoMemory
-    }
-}
-
-impl<T: Drop> From<AllocFailed<T>> for Stop {
-    ghost use Rattle.std.specs.Prelude.{◌≡◌};
-    ghost use Rattle.jsh_sem.specs.declared.outcome.Stop.TheVariants.{NoMemory};
-
-    ghost from_gives = { λ _ e. e ≡ NoMemory };
-
-    fn from(_: AllocFailed<T>) -> Stop {
-        Stop::NoMemory
-    }
-}
-
-impl From<WrongKind> for Stop {
-    ghost use Rattle.std.specs.Prelude.{◌≡◌};
-    ghost use Rattle.jsh_sem.specs.declared.outcome.Stop.TheVariants.{Wrong};
-
-    ghost from_gives = { λ wrong e. e ≡ Wrong wrong };
-
-    fn from(wrong: WrongKind) -> Stop {
-        Stop::Wrong(wrong)
-    }
+    Returns(Option<Value>),
+    /// The number of the throwable.
+    Throws(u32),
+    /// An operation met a value of another kind than it wants.
+    Wrong { wanted: KindName, found: KindName },
 }

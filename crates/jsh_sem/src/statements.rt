@@ -2,17 +2,14 @@
 
 ghost use Rattle.std.specs.Prelude.{◌≡◌, map, option_copied};
 ghost use Rattle.jsh_sem.specs.Expressions as expression;
-ghost use Rattle.jsh_sem.specs.Meets.{Meets};
+ghost use Rattle.jsh_sem_values.specs.Meets.{Meets};
 ghost use Rattle.jsh_sem.specs.Statements as spec;
 
-use crate::copies::{copied_class};
 use crate::expressions::{after, evaluated, truth};
-use crate::frame::Frame;
-use crate::methods::null_pointer;
-use crate::outcome::{Completion, Each, Stop};
-use crate::place::{element, length_of};
-use crate::request::Request;
-use crate::wanted::{boolean_of, int_of, wrong};
+use crate::outcome::{Completion, Each};
+use jsh_sem_values::{
+    Frame, Request, Stop, boolean_of, copied_class, element, int_of, length_of, null_pointer, wrong,
+};
 use jsh_text::{KindName, Value};
 use jsh_typed::{
     CatchClause, ClassName, Element, Expression, ResolvedType, Statement, Step, SwitchGroup,

@@ -2,11 +2,11 @@
 use Rattle.std.proofs.Common.{◌≡◌, Bool, true, false, if◌then◌else◌, Option, Some, None, refl, sym, subst, ◌∙◌, ap}
 use Rattle.std.specs.Prelude.{Result, Ok, Err}
 use Rattle.std.specs.Result.{IsErrAnd}
-use Rattle.jsh_sem.specs.declared.outcome.Stop.{Stop}
-use Rattle.jsh_sem.specs.declared.outcome.Stop.TheVariants as stop
-use Rattle.jsh_sem.specs.declared.outcome.WrongKind.{WrongKind}
-use Rattle.jsh_sem.specs.Flow.{State, Flow, Done, Threw, Needs, Wrong, Eval, behind, kinded}
-use Rattle.jsh_sem.specs.Meets.{Meets, Comes}
+use Rattle.jsh_sem_values.specs.declared.outcome.Stop.{Stop}
+use Rattle.jsh_sem_values.specs.declared.outcome.Stop.TheVariants as stop
+use Rattle.jsh_sem_values.specs.declared.outcome.WrongKind.{WrongKind}
+use Rattle.jsh_sem_values.specs.Flow.{State, Flow, Done, Threw, Needs, Wrong, Eval, behind, kinded}
+use Rattle.jsh_sem_values.specs.Meets.{Meets, Comes}
 
 -- a result
 pub done : {A : Type 0} {state : State} {a : A} → Meets (Done a state) state (Ok a)

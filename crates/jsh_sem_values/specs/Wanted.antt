@@ -17,7 +17,7 @@ use Rattle.jsh_typed.specs.declared.operation.BinaryOperation.{BinaryOperation}
 use Rattle.jsh_typed.specs.declared.operation.BinaryOperation.TheVariants as between
 use Rattle.jsh_constants.specs.Numbers.{converted, low_32_bits}
 use Rattle.jsh_constants.specs.Operators.{unary_value}
-use Rattle.jsh_sem.specs.declared.outcome.WrongKind.{WrongKind}
+use Rattle.jsh_sem_values.specs.declared.outcome.WrongKind.{WrongKind}
 
 -- a value that isn't of the kind
 abbrev pub wrong : {A : Type 0} → KindName → Value → Result A WrongKind

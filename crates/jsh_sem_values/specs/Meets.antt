@@ -1,8 +1,8 @@
 -- The code comes to what a definition comes to: want of memory alone is free.
 use Rattle.std.specs.Prelude.{◌≡◌, Result, Ok, Err}
-use Rattle.jsh_sem.specs.declared.outcome.Stop.{Stop}
-use Rattle.jsh_sem.specs.declared.outcome.Stop.TheVariants as stop
-use Rattle.jsh_sem.specs.Flow.{State, Flow, Done, Threw, Needs, Wrong}
+use Rattle.jsh_sem_values.specs.declared.outcome.Stop.{Stop}
+use Rattle.jsh_sem_values.specs.declared.outcome.Stop.TheVariants as stop
+use Rattle.jsh_sem_values.specs.Flow.{State, Flow, Done, Threw, Needs, Wrong}
 
 abbrev pub Comes : {A : Type 0} → Flow A → State → Result A Stop → Type 0
 Comes flow state (Ok result) = flow ≡ Done result state

@@ -1,11 +1,11 @@
 //! Joining, printing, and the static methods of the library.
 
 ghost use Rattle.std.specs.Prelude.{◌≡◌, ◌≢◌, pos, IfOk};
-ghost use Rattle.jsh_sem.specs.Flow as flow;
-ghost use Rattle.jsh_sem.specs.Flow.{State};
-ghost use Rattle.jsh_sem.specs.Meets.{Meets};
-ghost use Rattle.jsh_sem.specs.Methods as spec;
-ghost use Rattle.jsh_sem.specs.Wanted as wanted;
+ghost use Rattle.jsh_sem_values.specs.Flow as flow;
+ghost use Rattle.jsh_sem_values.specs.Flow.{State};
+ghost use Rattle.jsh_sem_values.specs.Meets.{Meets};
+ghost use Rattle.jsh_sem_values.specs.Methods as spec;
+ghost use Rattle.jsh_sem_values.specs.Wanted as wanted;
 ghost use Rattle.jsh_text.specs.declared.value.Value.TheVariants as value;
 ghost use Rattle.jsh_text.specs.Decimal.{int_value, long_value};
 

@@ -8,9 +8,9 @@ use Rattle.jsh_text.specs.declared.value.Value.TheVariants as value
 use Rattle.jsh_text.specs.declared.value.KindName.TheVariants as kind
 use Rattle.jsh_typed.specs.declared.expression.TextMethod.{TextMethod}
 use Rattle.jsh_typed.specs.declared.expression.TextMethod.TheVariants as method
-use Rattle.jsh_sem.specs.Flow.{Eval, gives, ◌>>=◌, kinded, raise}
-use Rattle.jsh_sem.specs.Wanted.{wrong, int_of, reference_of, argument, count}
-use Rattle.jsh_sem.specs.Methods.{made, null_pointer}
+use Rattle.jsh_sem_values.specs.Flow.{Eval, gives, ◌>>=◌, kinded, raise}
+use Rattle.jsh_sem_values.specs.Wanted.{wrong, int_of, reference_of, argument, count}
+use Rattle.jsh_sem_values.specs.Methods.{made, null_pointer}
 
 -- a text that a method is given: null raises NullPointerException
 abbrev pub given_text : Value → Eval (List ℕ)

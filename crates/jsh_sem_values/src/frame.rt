@@ -1,9 +1,9 @@
 //! Where evaluation goes on from.
 
 ghost use Rattle.std.specs.Prelude.{◌≡◌, length};
-ghost use Rattle.jsh_sem.specs.Flow as flow;
-ghost use Rattle.jsh_sem.specs.Flow.{State};
-ghost use Rattle.jsh_sem.specs.Meets.{Meets};
+ghost use Rattle.jsh_sem_values.specs.Flow as flow;
+ghost use Rattle.jsh_sem_values.specs.Flow.{State};
+ghost use Rattle.jsh_sem_values.specs.Meets.{Meets};
 
 use crate::outcome::{Stop, WrongKind};
 use crate::request::{Answer, Request};
@@ -22,7 +22,7 @@ pub struct Frame<'a> {
 }
 
 impl<'a> Model for Frame<'a> {
-    ghost use Rattle.jsh_sem.specs.Flow.{State};
+    ghost use Rattle.jsh_sem_values.specs.Flow.{State};
 
     ghost Value = { State };
 

@@ -1,7 +1,7 @@
 //! Values of the kinds that operations want.
 
 ghost use Rattle.std.specs.Prelude.{◌≡◌, Err, IfOk};
-ghost use Rattle.jsh_sem.specs.Wanted as spec;
+ghost use Rattle.jsh_sem_values.specs.Wanted as spec;
 
 use crate::outcome::WrongKind;
 use jsh_constants::{converted, unary_value};

@@ -1,6 +1,6 @@
-//! What a body asks of the world, what it is answered, and what it comes to.
+//! What a body asks of the world, and what it is answered.
 
-use jsh_text::{KindName, UText, Value};
+use jsh_text::{UText, Value};
 use jsh_tree::{Link, Name, Seq};
 use jsh_typed::{ClassName, ResolvedType};
 
@@ -95,15 +95,4 @@ pub enum Answer {
     Value(Value),
     /// The number of the throwable.
     Thrown(u32),
-}
-
-/// What a body comes to with its answers so far.
-#[derive(Drop)]
-pub enum Next {
-    Needs(Request),
-    Returns(Option<Value>),
-    /// The number of the throwable.
-    Throws(u32),
-    /// An operation met a value of another kind than it wants.
-    Wrong { wanted: KindName, found: KindName },
 }

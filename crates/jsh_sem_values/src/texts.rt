@@ -1,7 +1,7 @@
 //! The text of a value, as feedback shows it.
 
 ghost use Rattle.std.specs.Prelude.{◌≡◌, ◌++◌, ◌^◌, ◌<◌, drop, IfOk, OnOk};
-ghost use Rattle.jsh_sem.specs.Texts as spec;
+ghost use Rattle.jsh_sem_values.specs.Texts as spec;
 
 use jsh_text::{NoMemory, UText, Value, print_int, print_long};
 use std::alloc::Global;

@@ -1,8 +1,8 @@
 //! What an assignment stores to.
 
 ghost use Rattle.std.specs.Prelude.{◌≡◌};
-ghost use Rattle.jsh_sem.specs.Expressions as spec;
-ghost use Rattle.jsh_sem.specs.Meets.{Meets};
+ghost use Rattle.jsh_sem_values.specs.Places as spec;
+ghost use Rattle.jsh_sem_values.specs.Meets.{Meets};
 
 use crate::copies::copied_link;
 use crate::frame::Frame;

@@ -1,8 +1,8 @@
 //! The methods of texts.
 
 ghost use Rattle.std.specs.Prelude.{◌≡◌, IfOk, MatchOption};
-ghost use Rattle.jsh_sem.specs.Meets.{Meets};
-ghost use Rattle.jsh_sem.specs.TextMethods as spec;
+ghost use Rattle.jsh_sem_values.specs.Meets.{Meets};
+ghost use Rattle.jsh_sem_values.specs.TextMethods as spec;
 
 use crate::frame::Frame;
 use crate::methods::{argument, made, null_pointer};

@@ -5,11 +5,11 @@ use Rattle.jsh_text.specs.declared.value.Value.TheVariants as value
 use Rattle.jsh_text.specs.declared.value.KindName.{KindName}
 use Rattle.jsh_text.specs.declared.value.KindName.TheVariants as kind
 use Rattle.jsh_text.specs.Value.{kind_of}
-use Rattle.jsh_sem.specs.declared.request.Request.{Request}
-use Rattle.jsh_sem.specs.declared.request.Request.TheVariants as request
-use Rattle.jsh_sem.specs.declared.request.Answer.{Answer}
-use Rattle.jsh_sem.specs.declared.request.Answer.TheVariants as answer
-use Rattle.jsh_sem.specs.declared.outcome.WrongKind.{WrongKind}
+use Rattle.jsh_sem_values.specs.declared.request.Request.{Request}
+use Rattle.jsh_sem_values.specs.declared.request.Request.TheVariants as request
+use Rattle.jsh_sem_values.specs.declared.request.Answer.{Answer}
+use Rattle.jsh_sem_values.specs.declared.request.Answer.TheVariants as answer
+use Rattle.jsh_sem_values.specs.declared.outcome.WrongKind.{WrongKind}
 
 -- what evaluation goes on from: `this`, the value of each slot, and the answers that are left
 pub record State : Type 0 where

@@ -15,9 +15,9 @@ use Rattle.jsh_constants.specs.References.{text_of}
 use Rattle.jsh_constants.specs.declared.operate.Computed.{Computed}
 use Rattle.jsh_constants.specs.declared.operate.Computed.TheVariants as computed
 use Rattle.jsh_constants.specs.Operators.{binary_value}
-use Rattle.jsh_sem.specs.declared.request.Request.TheVariants as request
-use Rattle.jsh_sem.specs.Flow.{Eval, gives, ◌>>=◌, kinded, ask, raise}
-use Rattle.jsh_sem.specs.Wanted.{wrong, wrong_operand, text_or_null, argument, number_of, as_value}
+use Rattle.jsh_sem_values.specs.declared.request.Request.TheVariants as request
+use Rattle.jsh_sem_values.specs.Flow.{Eval, gives, ◌>>=◌, kinded, ask, raise}
+use Rattle.jsh_sem_values.specs.Wanted.{wrong, wrong_operand, text_or_null, argument, number_of, as_value}
 
 -- how many units a text may have
 abbrev pub longest : ℕ

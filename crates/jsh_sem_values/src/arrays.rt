@@ -1,8 +1,8 @@
 //! New arrays of several dimensions.
 
 ghost use Rattle.std.specs.Prelude.{◌≡◌, IfOk};
-ghost use Rattle.jsh_sem.specs.Expressions as spec;
-ghost use Rattle.jsh_sem.specs.Meets.{Meets};
+ghost use Rattle.jsh_sem_values.specs.Arrays as spec;
+ghost use Rattle.jsh_sem_values.specs.Meets.{Meets};
 
 use crate::copies::{copied_element, copied_type};
 use crate::frame::Frame;
