@@ -91,7 +91,7 @@ fn shown(frame: &mut Frame, of: &ResolvedType, value: Value) -> Result<Value, St
     match value {
         Value::Ref(array) if is_array(of) => {
             let answer = frame.ask(Request::Show { array })?;
-            text_answered(frame.alloc(), answer)
+            text_answered(frame, answer)
         }
         Value::Ref(object) => text_of_any(frame, Value::Ref(object)),
         _ => Ok(Value::Text(value_text(frame.alloc(), &value)?)),

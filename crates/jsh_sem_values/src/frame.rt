@@ -2,7 +2,6 @@
 
 ghost use Rattle.std.specs.Prelude.{◌≡◌, length};
 ghost use Rattle.jsh_sem_values.specs.Flow as flow;
-ghost use Rattle.jsh_sem_values.specs.Flow.{State};
 ghost use Rattle.jsh_sem_values.specs.Meets.{Meets};
 
 use crate::outcome::{Stop, WrongKind};
@@ -61,7 +60,7 @@ impl<'a> Frame<'a> {
             [] => Err(Stop::Needs(request)),
             [answer, rest @ ..] => {
                 self.answers = rest;
-                answered(answer)
+                self.answered(answer)
             }
         }
     }
@@ -104,14 +103,14 @@ impl<'a> Frame<'a> {
         }
         Ok(value)
     }
-}
 
-fn answered(answer: &Answer) -> Result<Value, Stop>
-    ensures { (s : State) → Meets (flow.answered answer.now s) s result }
-{
-    match answer {
-        Answer::Empty => Ok(Value::Null),
-        Answer::Value(value) => Ok(value.copy()?),
-        Answer::Thrown(object) => Err(Stop::Threw(*object)),
+    fn answered(&self, answer: &Answer) -> Result<Value, Stop>
+        ensures { Meets (flow.answered answer.now self.now) self.now result }
+    {
+        match answer {
+            Answer::Empty => Ok(Value::Null),
+            Answer::Value(value) => Ok(value.copy()?),
+            Answer::Thrown(object) => Err(Stop::Threw(*object)),
+        }
     }
 }

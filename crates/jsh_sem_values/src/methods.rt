@@ -2,7 +2,6 @@
 
 ghost use Rattle.std.specs.Prelude.{◌≡◌, ◌≢◌, pos, IfOk};
 ghost use Rattle.jsh_sem_values.specs.Flow as flow;
-ghost use Rattle.jsh_sem_values.specs.Flow.{State};
 ghost use Rattle.jsh_sem_values.specs.Meets.{Meets};
 ghost use Rattle.jsh_sem_values.specs.Methods as spec;
 ghost use Rattle.jsh_sem_values.specs.Wanted as wanted;
@@ -56,21 +55,21 @@ fn zero_divisor(frame: &mut Frame) -> Result<Value, Stop>
 }
 
 /// A text, where null counts as the text `null`.
-pub fn text_or_null(alloc: Global, found: Value) -> Result<UText, Stop>
-    ensures { (s : State) → Meets (flow.kinded (wanted.text_or_null found) s) s result }
+fn text_or_null(frame: &Frame, found: Value) -> Result<UText, Stop>
+    ensures { Meets (flow.kinded (wanted.text_or_null found) frame.now) frame.now result }
 {
     match found {
         Value::Text(units) => Ok(units),
-        Value::Null => Ok(UText::from_latin1(alloc, b"null")?),
+        Value::Null => Ok(UText::from_latin1(frame.alloc(), b"null")?),
         _ => Err(Stop::Wrong(wrong(KindName::Text, &found))),
     }
 }
 
 /// What `toString` answers.
-pub fn text_answered(alloc: Global, found: Value) -> Result<Value, Stop>
-    ensures { (s : State) → Meets (spec.text_answered found s) s result }
+pub fn text_answered(frame: &Frame, found: Value) -> Result<Value, Stop>
+    ensures { Meets (spec.text_answered found frame.now) frame.now result }
 {
-    Ok(Value::Text(text_or_null(alloc, found)?))
+    Ok(Value::Text(text_or_null(frame, found)?))
 }
 
 /// A string conversion (JLS 5.1.11).
@@ -87,7 +86,7 @@ pub fn text_of_any(frame: &mut Frame, found: Value) -> Result<Value, Stop>
                 params: Seq::new(alloc),
                 arguments: Seq::new(alloc),
             })?;
-            text_answered(alloc, answer)
+            text_answered(frame, answer)
         }
     }
 }
@@ -95,8 +94,8 @@ pub fn text_of_any(frame: &mut Frame, found: Value) -> Result<Value, Stop>
 fn joined(frame: &mut Frame, left: Value, right: Value) -> Result<Value, Stop>
     ensures { Meets (spec.joined left right frame.old) frame.new result }
 {
-    let mut units = text_or_null(frame.alloc(), left)?;
-    let more = text_or_null(frame.alloc(), right)?;
+    let mut units = text_or_null(frame, left)?;
+    let more = text_or_null(frame, right)?;
     units.append(&more)?;
     made(frame, units)
 }
@@ -191,14 +190,14 @@ fn floor_remainder(number: i64, divisor: i64) -> i64
     }
 }
 
-fn one_number(number: Promoted, values: &[Value]) -> Result<i64, Stop>
-    ensures { (s : State) → Meets (spec.one_number number values.now s) s result }
+fn one_number(frame: &Frame, number: Promoted, values: &[Value]) -> Result<i64, Stop>
+    ensures { Meets (spec.one_number number values.now frame.now) frame.now result }
 {
     Ok(number_of(number, &argument(values, 0)?)?)
 }
 
-fn two_numbers(number: Promoted, values: &[Value]) -> Result<(i64, i64), Stop>
-    ensures { (s : State) → Meets (spec.two_numbers number values.now s) s result }
+fn two_numbers(frame: &Frame, number: Promoted, values: &[Value]) -> Result<(i64, i64), Stop>
+    ensures { Meets (spec.two_numbers number values.now frame.now) frame.now result }
 {
     let first = number_of(number, &argument(values, 0)?)?;
     let second = number_of(number, &argument(values, 1)?)?;
@@ -254,7 +253,7 @@ fn parsed_long(frame: &mut Frame, found: Value) -> Result<Value, Stop>
 fn printed(frame: &mut Frame, behind: &[u16], found: Value) -> Result<Value, Stop>
     ensures { Meets (spec.printed behind.now found frame.old) frame.new result }
 {
-    let mut units = text_or_null(frame.alloc(), found)?;
+    let mut units = text_or_null(frame, found)?;
     units.push_units(behind)?;
     frame.ask(Request::Print(units))
 }
@@ -274,7 +273,7 @@ fn floored(
 ) -> Result<Value, Stop>
     ensures { Meets (spec.floored number quotient values.now frame.old) frame.new result }
 {
-    let (first, second) = two_numbers(number, values)?;
+    let (first, second) = two_numbers(frame, number, values)?;
     if second == 0 {
         return zero_divisor(frame);
     }
@@ -296,15 +295,15 @@ pub fn library(
 {
     match function {
         LibraryFunction::Absolute(number) => {
-            let found = one_number(number, values)?;
+            let found = one_number(frame, number, values)?;
             Ok(as_value(number, absolute(found)))
         }
         LibraryFunction::Least(number) => {
-            let (first, second) = two_numbers(number, values)?;
+            let (first, second) = two_numbers(frame, number, values)?;
             Ok(as_value(number, least(first, second)))
         }
         LibraryFunction::Greatest(number) => {
-            let (first, second) = two_numbers(number, values)?;
+            let (first, second) = two_numbers(frame, number, values)?;
             Ok(as_value(number, greatest(first, second)))
         }
         LibraryFunction::FloorDivide(number) => floored(frame, number, true, values),
