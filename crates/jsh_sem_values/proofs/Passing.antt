@@ -45,18 +45,31 @@ no_memory {A = A} {flow = flow} {state = state} {r = Err f} same =
 
 -- a value of the kind that is wanted, and of another one
 pub of_kind : {A B : Type 0} {x : Result A WrongKind} {a : A} {further : A → Eval B} {state end : State} {r : Result B Stop} →
-    x ≡ Ok a → Meets (further a state) end r → Meets (behind (kinded x state) further) end r
+    Ok a ≡ x → Meets (further a state) end r → Meets (behind (kinded x state) further) end r
 unfolding behind kinded
 of_kind {B = B} {further = further} {state = state} {end = end} {r = r} e m =
-    subst (λ (y : Result _ WrongKind). Meets (behind {B = B} (kinded y state) further) end r) (sym e) m
+    subst (λ (y : Result _ WrongKind). Meets (behind {B = B} (kinded y state) further) end r) e m
 
 pub of_other_kind : {A B : Type 0} {x : Result A WrongKind} {w : WrongKind} {further : A → Eval B} {state : State} {r : Result B Stop} →
-    x ≡ Err w → IsErrAnd r (λ f. f ≡ stop.Wrong w) → Meets (behind (kinded x state) further) state r
+    Err w ≡ x → IsErrAnd r (λ f. f ≡ stop.Wrong w) → Meets (behind (kinded x state) further) state r
 unfolding behind kinded
 of_other_kind {r = Ok b} e same = absurd same
 of_other_kind {B = B} {w = w} {further = further} {state = state} {r = Err f} e same =
     subst (λ (g : Stop). Meets {A = B} (behind (kinded _ state) further) state (Err g)) (sym same)
-    (record { comes = ap (λ (y : Result _ WrongKind). behind {B = B} (kinded y state) further) e })
+    (record { comes = ap (λ (y : Result _ WrongKind). behind {B = B} (kinded y state) further) (sym e) })
+
+-- the same with nothing behind
+pub kind_found : {A : Type 0} {x : Result A WrongKind} {a : A} {state : State} → Ok a ≡ x → Meets (kinded x state) state (Ok a)
+unfolding kinded
+kind_found {a = a} {state = state} e = subst (λ (y : Result _ WrongKind). Meets (kinded y state) state (Ok a)) e done
+
+pub kind_missed : {A : Type 0} {x : Result A WrongKind} {w : WrongKind} {state : State} {r : Result A Stop} →
+    Err w ≡ x → IsErrAnd r (λ f. f ≡ stop.Wrong w) → Meets (kinded x state) state r
+unfolding kinded
+kind_missed {r = Ok b} e same = absurd same
+kind_missed {A = A} {w = w} {state = state} {r = Err f} e same =
+    subst (λ (g : Stop). Meets {A = A} (kinded _ state) state (Err g)) (sym same)
+    (record { comes = ap (λ (y : Result _ WrongKind). kinded {A = A} y state) (sym e) })
 
 -- a choice
 pub on_true : {A : Type 0} {b : Bool} {x y : Eval A} {state end : State} {r : Result A Stop} → b ≡ true → Meets (x state) end r → Meets ((if b then x else y) state) end r
