@@ -109,11 +109,15 @@ instance t v = do
   ask (request.Instance reference t)
 
 -- a method of an object: the arguments are evaluated before the object is looked at (JLS 15.12.4)
+abbrev pub virtual_on : MethodName → Value → List Value → Whole
+virtual_on method v vs = do
+  object ← kinded (reference_of v)
+  ask (request.Virtual object method.name method.params vs)
+
 abbrev pub virtual_call : MethodName → List Whole → Onward
 virtual_call method arguments v = do
   vs ← all_of arguments
-  object ← kinded (reference_of v)
-  ask (request.Virtual object method.name method.params vs)
+  virtual_on method v vs
 
 abbrev pub text_method : TextMethod → List Whole → Onward
 text_method method arguments v = do
@@ -168,21 +172,33 @@ call link arguments = do
 abbrev pub direct : ClassName → Option (List ℕ) → List ResolvedType → Value → List Value → Whole
 direct c name params object vs = ask (request.Direct c name params object vs)
 
+abbrev pub direct_on_this : ClassName → Option (List ℕ) → List ResolvedType → Value → List Value → Whole
+direct_on_this c name params v vs = do
+  object ← kinded (object_of v)
+  direct c name params object vs
+
 abbrev pub on_this : ClassName → Option (List ℕ) → List ResolvedType → List Whole → Whole
 on_this c name params arguments = do
   v ← this_object
   vs ← all_of arguments
-  object ← kinded (object_of v)
-  direct c name params object vs
+  direct_on_this c name params v vs
 
 -- the object is made before its arguments are evaluated
-abbrev pub new_object : ClassName → List ResolvedType → List Whole → Whole
-new_object c params arguments = do
+abbrev pub made_object : ClassName → Whole
+made_object c = do
   v ← ask (request.NewObject c)
-  object ← kinded (object_of v)
-  vs ← all_of arguments
+  kinded (object_of v)
+
+abbrev pub constructed : ClassName → List ResolvedType → Value → List Value → Whole
+constructed c params object vs = do
   _ ← direct c None params object vs
   gives object
+
+abbrev pub new_object : ClassName → List ResolvedType → List Whole → Whole
+new_object c params arguments = do
+  object ← made_object c
+  vs ← all_of arguments
+  constructed c params object vs
 
 -- all the lengths are evaluated first
 abbrev pub sized : ResolvedType → List Whole → Whole

@@ -1,7 +1,9 @@
 //! What expressions come to: operands from left to right, each once.
 
-ghost use Rattle.std.specs.Prelude.{◌≡◌, [], map, Some, None, option_copied};
+ghost use Rattle.std.specs.Prelude.{◌≡◌, [], map, None, option_copied};
 ghost use Rattle.jsh_sem.specs.Expressions as spec;
+ghost use Rattle.jsh_sem_values.specs.declared.request.Request.TheVariants as request;
+ghost use Rattle.jsh_sem_values.specs.Flow.{ask};
 ghost use Rattle.jsh_sem_values.specs.Meets.{Meets};
 
 use jsh_sem_values::{
@@ -13,7 +15,6 @@ use jsh_text::Value;
 use jsh_tree::{Link, Name, Seq};
 use jsh_typed::{
     BinaryOperation, ClassName, Expression, MethodName, ResolvedType, Start, Step, Target,
-    TextMethod,
 };
 
 /// What an expression comes to. One without a value gives null, or what its request is answered.
@@ -26,7 +27,6 @@ pub fn evaluated(frame: &mut Frame, expression: &Expression) -> Result<Value, St
 }
 
 /// The truth of a condition.
-#[cycle(expression)]
 pub fn truth(frame: &mut Frame, expression: &Expression) -> Result<bool, Stop>
     ensures { Meets (spec.truth (spec.evaluated expression.now) frame.old) frame.new result }
 {
@@ -68,9 +68,17 @@ fn start_value(frame: &mut Frame, start: &Start) -> Result<Value, Stop>
         Start::Local { slot, .. } => frame.local(*slot),
         Start::Variable { link, .. } => get_var(frame, link),
         Start::Conditional { condition, yes, no } => {
-            conditional(frame, condition.get(), yes.get(), no.get())
+            if boolean_of(&evaluated(frame, condition.get())?)? {
+                evaluated(frame, yes.get())
+            } else {
+                evaluated(frame, no.get())
+            }
         }
-        Start::Assign { target, value } => assign(frame, target, value.get()),
+        Start::Assign { target, value } => {
+            let to = target_place(frame, target)?;
+            let value = evaluated(frame, value.get())?;
+            store(frame, to, value)
+        }
         Start::Update {
             target,
             steps,
@@ -80,8 +88,16 @@ fn start_value(frame: &mut Frame, start: &Start) -> Result<Value, Stop>
             link,
             arguments,
             ..
-        } => call(frame, link, arguments.as_slice()),
-        Start::SuperCall { method, arguments } => super_call(frame, method, arguments.as_slice()),
+        } => {
+            let values = all_of(frame, arguments.as_slice())?;
+            call(frame, link, values)
+        }
+        Start::SuperCall { method, arguments } => {
+            let found = frame.this_object()?;
+            let values = all_of(frame, arguments.as_slice())?;
+            let name = Some(&method.name);
+            direct_on_this(frame, &method.class, name, &method.params, found, values)
+        }
         Start::LibraryCall {
             function,
             arguments,
@@ -93,42 +109,29 @@ fn start_value(frame: &mut Frame, start: &Start) -> Result<Value, Stop>
             class,
             params,
             arguments,
-        } => new_object(frame, class, params, arguments.as_slice()),
+        } => {
+            let object = made_object(frame, class)?;
+            let values = all_of(frame, arguments.as_slice())?;
+            constructed(frame, class, params, object, values)
+        }
         Start::Construct {
             class,
             params,
             arguments,
-        } => construct(frame, class, params, arguments.as_slice()),
-        Start::NewArray { of, sizes } => new_arrays(frame, of, sizes.as_slice()),
-        Start::ArrayOf { of, values } => array_of(frame, of, values.as_slice()),
+        } => {
+            let found = frame.this_object()?;
+            let values = all_of(frame, arguments.as_slice())?;
+            direct_on_this(frame, class, None, params, found, values)
+        }
+        Start::NewArray { of, sizes } => {
+            let lengths = ints_of(frame, sizes.as_slice())?;
+            arrays_or_raise(frame, of, lengths.as_slice())
+        }
+        Start::ArrayOf { of, values } => {
+            let array = new_array(frame, of, count(values.as_slice().len()))?;
+            fill_with(frame, array, values.as_slice())
+        }
     }
-}
-
-#[cycle(expression)]
-#[inline(never)]
-fn conditional(
-    frame: &mut Frame,
-    condition: &Expression,
-    yes: &Expression,
-    no: &Expression,
-) -> Result<Value, Stop>
-    ensures { Meets (spec.conditional (spec.evaluated condition.now) (spec.evaluated yes.now) (spec.evaluated no.now) frame.old) frame.new result }
-{
-    if truth(frame, condition)? {
-        evaluated(frame, yes)
-    } else {
-        evaluated(frame, no)
-    }
-}
-
-#[cycle(expression)]
-#[inline(never)]
-fn assign(frame: &mut Frame, target: &Target, expression: &Expression) -> Result<Value, Stop>
-    ensures { Meets (spec.assign (spec.target_place target.now) (spec.evaluated expression.now) frame.old) frame.new result }
-{
-    let to = target_place(frame, target)?;
-    let value = evaluated(frame, expression)?;
-    store(frame, to, value)
 }
 
 #[cycle(expression)]
@@ -178,34 +181,13 @@ fn target_place(frame: &mut Frame, target: &Target) -> Result<Place, Stop>
     }
 }
 
-#[cycle(expression)]
-#[inline(never)]
-fn call(frame: &mut Frame, link: &Link, arguments: &[Expression]) -> Result<Value, Stop>
-    ensures { Meets (spec.call link.now (map spec.evaluated arguments.now) frame.old) frame.new result }
+fn call(frame: &mut Frame, link: &Link, values: Seq<Value>) -> Result<Value, Stop>
+    ensures { Meets (ask (request.Call link.now values) frame.old) frame.new result }
 {
-    let values = all_of(frame, arguments)?;
     frame.ask(Request::Call {
         link: copied_link(link)?,
         arguments: values,
     })
-}
-
-/// A method of the superclass, or a constructor, on `this`.
-#[cycle(expression)]
-#[inline(never)]
-fn direct(
-    frame: &mut Frame,
-    class: &ClassName,
-    name: Option<&Name>,
-    params: &Seq<ResolvedType>,
-    arguments: &[Expression],
-) -> Result<Value, Stop>
-    ensures { Meets (spec.on_this class.now (option_copied name) params.now (map spec.evaluated arguments.now) frame.old) frame.new result }
-{
-    let found = frame.this_object()?;
-    let values = all_of(frame, arguments)?;
-    let object = object_of(found)?;
-    direct_on(frame, class, name, params, object, values)
 }
 
 fn direct_on(
@@ -231,60 +213,41 @@ fn direct_on(
     })
 }
 
-#[cycle(expression)]
-fn super_call(
-    frame: &mut Frame,
-    method: &MethodName,
-    arguments: &[Expression],
-) -> Result<Value, Stop>
-    ensures { Meets (spec.on_this method.now.class (Some method.now.name) method.now.params (map spec.evaluated arguments.now) frame.old) frame.new result }
-{
-    direct(
-        frame,
-        &method.class,
-        Some(&method.name),
-        &method.params,
-        arguments,
-    )
-}
-
-#[cycle(expression)]
-fn construct(
-    frame: &mut Frame,
-    class: &ClassName,
-    params: &Seq<ResolvedType>,
-    arguments: &[Expression],
-) -> Result<Value, Stop>
-    ensures { Meets (spec.on_this class.now None params.now (map spec.evaluated arguments.now) frame.old) frame.new result }
-{
-    direct(frame, class, None, params, arguments)
-}
-
-/// The object is made before its arguments are evaluated.
-#[cycle(expression)]
+/// A method of the superclass, or a constructor, on `this`.
 #[inline(never)]
-fn new_object(
+fn direct_on_this(
     frame: &mut Frame,
     class: &ClassName,
+    name: Option<&Name>,
     params: &Seq<ResolvedType>,
-    arguments: &[Expression],
+    found: Value,
+    values: Seq<Value>,
 ) -> Result<Value, Stop>
-    ensures { Meets (spec.new_object class.now params.now (map spec.evaluated arguments.now) frame.old) frame.new result }
+    ensures { Meets (spec.direct_on_this class.now (option_copied name) params.now found values frame.old) frame.new result }
+{
+    let object = object_of(found)?;
+    direct_on(frame, class, name, params, object, values)
+}
+
+fn made_object(frame: &mut Frame, class: &ClassName) -> Result<Value, Stop>
+    ensures { Meets (spec.made_object class.now frame.old) frame.new result }
 {
     let found = frame.ask(Request::NewObject(copied_class(class)?))?;
-    let object = object_of(found)?;
-    let values = all_of(frame, arguments)?;
-    direct_on(frame, class, None, params, object.copy()?, values)?;
-    Ok(object)
+    Ok(object_of(found)?)
 }
 
-#[cycle(expression)]
 #[inline(never)]
-fn new_arrays(frame: &mut Frame, of: &ResolvedType, sizes: &[Expression]) -> Result<Value, Stop>
-    ensures { Meets (spec.sized of.now (map spec.evaluated sizes.now) frame.old) frame.new result }
+fn constructed(
+    frame: &mut Frame,
+    class: &ClassName,
+    params: &Seq<ResolvedType>,
+    object: Value,
+    values: Seq<Value>,
+) -> Result<Value, Stop>
+    ensures { Meets (spec.constructed class.now params.now object values frame.old) frame.new result }
 {
-    let lengths = ints_of(frame, sizes)?;
-    arrays_or_raise(frame, of, lengths.as_slice())
+    direct_on(frame, class, None, params, object.copy()?, values)?;
+    Ok(object)
 }
 
 #[cycle(expression)]
@@ -302,10 +265,9 @@ fn ints_of(frame: &mut Frame, expressions: &[Expression]) -> Result<Seq<i32>, St
 /// Each value is stored before the next one is evaluated (JLS 10.6).
 #[cycle(expression)]
 #[inline(never)]
-fn array_of(frame: &mut Frame, of: &ResolvedType, values: &[Expression]) -> Result<Value, Stop>
-    ensures { Meets (spec.array_of of.now (map spec.evaluated values.now) frame.old) frame.new result }
+fn fill_with(frame: &mut Frame, array: Value, values: &[Expression]) -> Result<Value, Stop>
+    ensures { Meets (spec.fill_with array 0 (map spec.evaluated values.now) frame.old) frame.new result }
 {
-    let array = new_array(frame, of, count(values.len()))?;
     for (place, value) in values.iter().enumerate() {
         let value = evaluated(frame, value)?;
         set_element(frame, &array, count(place), &value)?;
@@ -332,10 +294,12 @@ fn step_value(frame: &mut Frame, step: &Step, value: Value) -> Result<Value, Sto
         }
         Step::Length => length_of(frame, value),
         Step::Call { method, arguments } => {
-            virtual_call(frame, method, arguments.as_slice(), value)
+            let values = all_of(frame, arguments.as_slice())?;
+            virtual_call(frame, method, value, values)
         }
         Step::TextCall { method, arguments } => {
-            text_method(frame, *method, arguments.as_slice(), value)
+            let values = all_of(frame, arguments.as_slice())?;
+            text_call(frame, *method, value, values.as_slice())
         }
     }
 }
@@ -376,11 +340,11 @@ fn binary(
 {
     match operation {
         BinaryOperation::AndAlso => {
-            let holds = boolean_of(&left)? && truth(frame, right)?;
+            let holds = boolean_of(&left)? && boolean_of(&evaluated(frame, right)?)?;
             Ok(Value::Boolean(holds))
         }
         BinaryOperation::OrElse => {
-            let holds = boolean_of(&left)? || truth(frame, right)?;
+            let holds = boolean_of(&left)? || boolean_of(&evaluated(frame, right)?)?;
             Ok(Value::Boolean(holds))
         }
         _ => {
@@ -390,17 +354,15 @@ fn binary(
     }
 }
 
-#[cycle(expression)]
 #[inline(never)]
 fn virtual_call(
     frame: &mut Frame,
     method: &MethodName,
-    arguments: &[Expression],
     value: Value,
+    values: Seq<Value>,
 ) -> Result<Value, Stop>
-    ensures { Meets (spec.virtual_call method.now (map spec.evaluated arguments.now) value frame.old) frame.new result }
+    ensures { Meets (spec.virtual_on method.now value values frame.old) frame.new result }
 {
-    let values = all_of(frame, arguments)?;
     let object = reference_of(value)?;
     frame.ask(Request::Virtual {
         object,
@@ -408,18 +370,4 @@ fn virtual_call(
         params: copied_types(&method.params)?,
         arguments: values,
     })
-}
-
-#[cycle(expression)]
-#[inline(never)]
-fn text_method(
-    frame: &mut Frame,
-    method: TextMethod,
-    arguments: &[Expression],
-    value: Value,
-) -> Result<Value, Stop>
-    ensures { Meets (spec.text_method method (map spec.evaluated arguments.now) value frame.old) frame.new result }
-{
-    let values = all_of(frame, arguments)?;
-    text_call(frame, method, value, values.as_slice())
 }

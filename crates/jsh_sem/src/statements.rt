@@ -39,7 +39,13 @@ pub fn executed(frame: &mut Frame, statement: &Statement) -> Result<Completion, 
             }
         }
         Statement::While { condition, body } => turns(frame, Some(condition), None, body.get()),
-        Statement::Do { body, condition } => { do_while(frame, body.get(), condition) }
+        Statement::Do { body, condition } => {
+            let over = executed(frame, body.get())?;
+            match behind_body(frame, over, None)? {
+                Some(over) => Ok(over),
+                None => turns(frame, Some(condition), None, body.get()),
+            }
+        }
         Statement::For {
             start,
             condition,
@@ -148,7 +154,7 @@ fn turn(
 ) -> Result<Option<Completion>, Stop>
     ensures { Meets (spec.turn (spec.condition_of (option_copied condition)) (spec.executed body.now) (spec.value_of (option_copied update)) frame.old) frame.new result }
 {
-    frame.ask(Request::Tick)?;
+    let _answer = frame.ask(Request::Tick)?;
     if !holds(frame, condition)? {
         return Ok(Some(Completion::Normal));
     }
@@ -173,18 +179,6 @@ fn turns(
         }
     }
     Err(Stop::Needs(Request::Tick))
-}
-
-#[cycle(statement)]
-#[inline(never)]
-fn do_while(frame: &mut Frame, body: &Statement, condition: &Expression) -> Result<Completion, Stop>
-    ensures { Meets (spec.do_while (spec.executed body.now) (expression.truth (expression.evaluated condition.now)) frame.old) frame.new result }
-{
-    let over = executed(frame, body)?;
-    match behind_body(frame, over, None)? {
-        Some(over) => Ok(over),
-        None => turns(frame, Some(condition), None, body),
-    }
 }
 
 fn begin_each(frame: &mut Frame, each: Each, array: &Expression) -> Result<Value, Stop>
