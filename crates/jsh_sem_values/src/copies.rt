@@ -50,7 +50,8 @@ pub fn copied_types(from: &Seq<ResolvedType>) -> Result<Seq<ResolvedType>, Alloc
     ensures { IfOk result (λ copy. copy ≡ from.now) }
 {
     let mut copy = Vec::new(from.allocator());
-    for of in from.as_slice() {
+    let types = from.as_slice();
+    for of in types {
         let next = copied_type(of)?;
         copy.push(next)?;
     }

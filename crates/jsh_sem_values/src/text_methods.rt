@@ -113,12 +113,13 @@ fn first_place(needle: &[u16], units: &[u16]) -> i32
 fn difference(units: &[u16], others: &[u16]) -> i32
     ensures { result ≡ spec.difference units.now others.now }
 {
-    for (unit, other) in units.iter().zip(others) {
-        if unit != other {
-            return (*unit as i32).wrapping_sub(*other as i32);
+    let common = units.len().min(others.len());
+    for place in 0..common {
+        if units[place] != others[place] {
+            return (units[place] as i32).wrapping_sub(others[place] as i32);
         }
     }
-    count(units.len()).wrapping_sub(count(others.len()))
+    count(units.len() - common).wrapping_sub(count(others.len() - common))
 }
 
 fn is_text(units: &UText, found: &Value) -> bool
