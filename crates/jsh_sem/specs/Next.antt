@@ -7,7 +7,6 @@ use Rattle.jsh_typed.specs.declared.types.Element.{Element}
 use Rattle.jsh_typed.specs.declared.types.Element.TheVariants as element
 use Rattle.jsh_typed.specs.declared.types.ResolvedType.{ResolvedType}
 use Rattle.jsh_typed.specs.declared.types.ResolvedType.TheVariants as type
-use Rattle.jsh_typed.specs.declared.expression.Expression.{Expression}
 use Rattle.jsh_typed.specs.declared.statement.Body.{Body}
 use Rattle.jsh_typed.specs.declared.statement.BodyCode.{BodyCode}
 use Rattle.jsh_typed.specs.declared.statement.BodyCode.TheVariants as code

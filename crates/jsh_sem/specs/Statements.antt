@@ -8,7 +8,6 @@ use Rattle.jsh_text.specs.declared.value.Value.TheVariants as value
 use Rattle.jsh_text.specs.declared.value.KindName.TheVariants as kind
 use Rattle.jsh_typed.specs.declared.types.ClassName.{ClassName}
 use Rattle.jsh_typed.specs.declared.types.Element.TheVariants as element
-use Rattle.jsh_typed.specs.declared.types.ResolvedType.{ResolvedType}
 use Rattle.jsh_typed.specs.declared.types.ResolvedType.TheVariants as type
 use Rattle.jsh_typed.specs.declared.expression.Expression.{Expression}
 use Rattle.jsh_typed.specs.declared.statement.CatchClause.{CatchClause}
@@ -22,7 +21,7 @@ use Rattle.jsh_sem_values.specs.declared.request.Request.TheVariants as request
 use Rattle.jsh_sem.specs.declared.outcome.Each.{Each}
 use Rattle.jsh_sem.specs.declared.outcome.Completion.{Completion}
 use Rattle.jsh_sem.specs.declared.outcome.Completion.TheVariants as completion
-use Rattle.jsh_sem_values.specs.Flow.{State, Flow, Done, Threw, Needs, Wrong, Eval, gives, throws, ◌>>=◌, kinded, ask, local, set_local}
+use Rattle.jsh_sem_values.specs.Flow.{State, Flow, Threw, Needs, Eval, gives, throws, ◌>>=◌, kinded, ask, local, set_local}
 use Rattle.jsh_sem_values.specs.Wanted.{wrong, int_of, boolean_of}
 use Rattle.jsh_sem_values.specs.Methods.{null_pointer}
 use Rattle.jsh_sem.specs.Expressions.{evaluated, truth, step_value, after, length_of, element as element_at}

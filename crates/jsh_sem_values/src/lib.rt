@@ -22,6 +22,4 @@ pub use place::{element, field, get_var, length_of, load, store};
 pub use request::{Answer, Request};
 pub use text_methods::text_call;
 pub use texts::value_text;
-pub use wanted::{
-    boolean_of, count, int_of, number_as, object_of, reference_of, unary, wrong,
-};
+pub use wanted::{boolean_of, count, int_of, number_as, object_of, reference_of, unary, wrong};
