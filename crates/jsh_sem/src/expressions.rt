@@ -7,9 +7,10 @@ ghost use Rattle.jsh_sem_values.specs.Flow.{ask};
 ghost use Rattle.jsh_sem_values.specs.Meets.{Meets};
 
 use jsh_sem_values::{
-    Frame, Place, Request, Stop, arrays_or_raise, boolean_of, copied_class, copied_link, copied_type,
-    copied_types, count, element, field, get_var, int_of, length_of, library, load, new_array,
-    number_as, object_of, operated, reference_of, set_element, store, text_call, text_of_any, unary,
+    Frame, Place, Request, Stop, arrays_or_raise, boolean_of, copied_class, copied_link,
+    copied_type, copied_types, count, element, field, get_var, int_of, length_of, library, load,
+    new_array, number_as, object_of, operated, reference_of, set_element, store, text_call,
+    text_of_any, unary,
 };
 use jsh_text::Value;
 use jsh_tree::{Link, Name, Seq};

@@ -38,18 +38,24 @@ pub fn first_value(of: &ResolvedType) -> Value
     }
 }
 
+fn copied_values(alloc: Global, values: &[Value]) -> Result<Vec<Value>, NoMemory>
+    ensures { IfOk result (λ copies. copies.items ≡ values.now) }
+{
+    let mut copies = Vec::with_capacity(alloc, values.len())?;
+    for value in values {
+        copies.push(value.copy()?)?;
+    }
+    Ok(copies)
+}
+
 // The arguments, and the first value of each further slot.
 fn slots(alloc: Global, types: &[ResolvedType], arguments: &[Value]) -> Result<Vec<Value>, NoMemory>
     ensures { IfOk result (λ locals. locals.items ≡ spec.slots types.now arguments.now) }
 {
-    let mut locals = Vec::with_capacity(alloc, arguments.len())?;
-    for argument in arguments {
-        locals.push(argument.copy()?)?;
-    }
-    if arguments.len() < types.len() {
-        for of in &types[arguments.len()..] {
-            locals.push(first_value(of))?;
-        }
+    let mut locals = copied_values(alloc, arguments)?;
+    let further = &types[arguments.len().min(types.len())..];
+    for of in further {
+        locals.push(first_value(of))?;
     }
     Ok(locals)
 }

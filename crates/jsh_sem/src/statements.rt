@@ -1,6 +1,7 @@
 //! What statements come to.
 
-ghost use Rattle.std.specs.Prelude.{◌≡◌, map, option_copied};
+ghost use Rattle.std.specs.Prelude.{◌≡◌, true, false, map, option_copied, MatchOption};
+ghost use Rattle.std.specs.List.{list_any};
 ghost use Rattle.jsh_sem.specs.Expressions as expression;
 ghost use Rattle.jsh_sem_values.specs.Meets.{Meets};
 ghost use Rattle.jsh_sem.specs.Statements as spec;
@@ -284,15 +285,22 @@ fn has_default(labels: &[SwitchLabel]) -> bool
     false
 }
 
-/// From the first group on that has the value, or else `default`.
-fn chosen(groups: &[SwitchGroup], number: i32) -> &[SwitchGroup]
-    ensures { map spec.grouped result.now ≡ spec.chosen number (map spec.grouped groups.now) }
+/// From the first group on that has the value, where one has it.
+fn from_case(groups: &[SwitchGroup], number: i32) -> Option<&[SwitchGroup]>
+    ensures { MatchOption result (list_any (λ group. spec.has_case number group.0) (map spec.grouped groups.now) ≡ false) (λ rest. (list_any (λ group. spec.has_case number group.0) (map spec.grouped groups.now) ≡ true) × (map spec.grouped rest.now ≡ spec.from_first (λ group. spec.has_case number group.0) (map spec.grouped groups.now))) }
 {
     for place in 0..groups.len() {
         if has_case(groups[place].labels.as_slice(), number) {
-            return &groups[place..];
+            return Some(&groups[place..]);
         }
     }
+    None
+}
+
+/// From the first group on that has `default`.
+fn from_default(groups: &[SwitchGroup]) -> &[SwitchGroup]
+    ensures { map spec.grouped result.now ≡ spec.from_first (λ group. spec.has_default group.0) (map spec.grouped groups.now) }
+{
     for place in 0..groups.len() {
         if has_default(groups[place].labels.as_slice()) {
             return &groups[place..];
@@ -301,12 +309,23 @@ fn chosen(groups: &[SwitchGroup], number: i32) -> &[SwitchGroup]
     &[]
 }
 
+/// From the first group on that has the value, or else `default`.
+fn chosen(groups: &[SwitchGroup], number: i32) -> &[SwitchGroup]
+    ensures { map spec.grouped result.now ≡ spec.chosen number (map spec.grouped groups.now) }
+{
+    match from_case(groups, number) {
+        Some(rest) => rest,
+        None => from_default(groups),
+    }
+}
+
 #[cycle(statement)]
 #[inline(never)]
 fn switched(frame: &mut Frame, number: i32, groups: &[SwitchGroup]) -> Result<Completion, Stop>
     ensures { Meets (spec.switched number (map spec.grouped groups.now) frame.old) frame.new result }
 {
-    for group in chosen(groups, number) {
+    let rest = chosen(groups, number);
+    for group in rest {
         match in_turn(frame, group.statements.as_slice())? {
             Completion::Normal => {}
             Completion::Broke => return Ok(Completion::Normal),
