@@ -9,3 +9,4 @@ pub mod Driving
 pub mod Cutting
 pub mod Journal
 pub mod Upcoming
+pub mod JournalFile

@@ -3,12 +3,13 @@ use Rattle.std.specs.Prelude.{ℕ, ◌==◌, List, [], Option, None, Some, optio
 use Rattle.jsh_words.specs.declared.meaning.Meaning.{Meaning}
 use Rattle.jsh_words.specs.declared.meaning.Meaning.TheVariants.{Run}
 use Rattle.jsh_words.specs.Meant.{meaning}
+use Rattle.jsh_shell.specs.declared.served.Wanted.{Wanted}
 
--- the budget of one client over the standard streams alone, without pumps, journal, startup file and scripts
-abbrev pub lone_budget : Meaning → Option ℕ
-lone_budget (Run workers budget None None []) = if workers == 0 then Some budget else None
-lone_budget _ = None
+-- what one client over the standard streams alone is served with, without pumps, startup file and scripts
+abbrev pub lone : Meaning → Option Wanted
+lone (Run workers budget journal None []) = if workers == 0 then Some (record { budget = budget; journal = journal }) else None
+lone _ = None
 
--- the budget with which these words are served, where they are
-abbrev pub budget_of : List (List ℕ) → Option ℕ
-budget_of words = option_and_then lone_budget (meaning words)
+-- what these words are served with, where they are
+abbrev pub wanted_by : List (List ℕ) → Option Wanted
+wanted_by words = option_and_then lone (meaning words)

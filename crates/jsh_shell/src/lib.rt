@@ -7,6 +7,7 @@ mod client;
 mod driving;
 mod evaluation;
 mod halts;
+mod journal_file;
 mod laws;
 mod lines;
 mod reports;

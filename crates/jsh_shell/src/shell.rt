@@ -5,21 +5,25 @@ ghost use Rattle.std.specs.String.{string_bytes};
 ghost use Rattle.jsh_io.specs.Count.{Rose, TakesPart};
 ghost use Rattle.jsh_io.specs.Inputs.{IsEmptyWhereTold};
 ghost use Rattle.jsh_io.specs.Streams.{IsStreamWhereTold};
-ghost use Rattle.jsh_io.specs.Streams.StreamName.{StandardStream};
+ghost use Rattle.jsh_io.specs.Streams.StreamName.{StandardStream, FileNamed};
 ghost use Rattle.jsh_snippet.specs.declared.acts.Act.TheVariants as act;
 ghost use Rattle.jsh_core.specs.History.{IsLegal};
 ghost use Rattle.jsh_shell.specs.Journal.{entry_of, IsFramed, IsServed, IsUnread, IsUsage};
-ghost use Rattle.jsh_shell.specs.Served.{budget_of};
-ghost use Rattle.jsh_shell.specs.Statuses.{all_served, limit_met, memory_short, read_failed, words_refused};
+ghost use Rattle.jsh_shell.specs.JournalFile.{first_of, IsKept, IsWritten};
+ghost use Rattle.jsh_shell.specs.Served.{wanted_by};
+ghost use Rattle.jsh_shell.specs.Statuses.{all_served, limit_met, memory_short, read_failed, words_refused, write_failed};
+ghost use Rattle.jsh_shell.specs.declared.served.Wanted.{Wanted};
 
 use crate::client::{push_report, report_without, serve_client};
 use crate::reports::{ClientReport, Report};
-use crate::served::budget_of;
+use crate::journal_file::with_journal;
+use crate::served::{Wanted, wanted_by};
 use crate::serving::PIECE;
-use crate::statuses::{MEMORY_SHORT, READ_FAILED, WORDS_REFUSED};
+use crate::statuses::{MEMORY_SHORT, READ_FAILED, WORDS_REFUSED, WRITE_FAILED};
 use jsh_io::{Desk, Gate, Sink, Source, write_whole};
 use jsh_steps::Steps;
 use jsh_text::NoMemory;
+use jsh_tree::SrcText;
 use std::alloc::Global;
 use std::marker::Brand;
 use std::sync::Wait;
@@ -160,11 +164,50 @@ fn refuse_words<D: Desk>(
     refuse(alloc, source, sink, clients)
 }
 
-/// Serves the one client, where the standard streams can be opened.
+/// Serves the one client over these streams, and keeps the journal in the file of this name.
+#[tactic(none)]
+fn serve_kept<D: Desk>(
+    alloc: Global,
+    budget: u64,
+    name: SrcText,
+    source: D::In,
+    sink: D::Out,
+    desk: &mut D,
+    clients: Vec<ClientReport<D::In, D::Out>>,
+) -> Report<D::In, D::Out>
+    requires none { clients.items ≡ [] }
+    requires room { vec_len clients < vec_capacity clients }
+    requires empty { IsEmptyWhereTold (D.Out.held sink) }
+    ensures legal { IsLegal result.journal.items }
+    ensures framed { (result.journal.items ≡ []) ⊎ IsFramed (length result.clients.items) result.journal.items }
+    ensures served { All (λ r. (r.number ≡ 1) × (result.status ≡ first_of r.status result.journal_status)
+        × IsServed budget r.number r.status result.journal.items (D.In.left source) (D.In.left r.source) (D.Out.held r.sink)
+        (D.In.faults source) (D.In.faults r.source) (D.Out.faults sink) (D.Out.faults r.sink)) result.clients.items }
+    ensures stream { All (λ r. D.Out.stream r.sink ≡ D.Out.stream sink) result.clients.items }
+    ensures alone { (result.clients.items ≡ []) →
+        ((result.status ≡ write_failed) × (result.journal.items ≡ []) × Rose (D.output_faults desk.old) (D.output_faults desk.new))
+        ⊎ ((result.status ≡ memory_short) × ((result.journal.items ≡ []) ⊎ (result.journal.items ≡ entry_of 0 act.Close ∷ []))) }
+    ensures empty { (result.journal.items ≡ []) → (result.clients.items ≡ []) }
+    ensures one { length result.clients.items ≤ 1 }
+    ensures inputs { D.input_faults desk.old ≤ D.input_faults desk.new }
+    ensures kept { IsKept (Some name) result.journal.items result.journal_sink }
+    ensures file { IfSome result.journal_sink (λ file. IsStreamWhereTold (D.Out.stream file) (FileNamed name)
+        × IsWritten result.journal_status result.journal.items (D.Out.held file) 0 (D.Out.faults file)) }
+    ensures no_file { IsNone result.journal_sink → result.journal_status ≡ 0 }
+{
+    let file = match desk.open_out(name.as_str()) {
+        Ok(file) => file,
+        Err(_failed) => return report_without(WRITE_FAILED, Vec::new(alloc), clients),
+    };
+    let report = serve_standard(alloc, budget, source, sink, clients);
+    with_journal(alloc, report, file)
+}
+
+/// Serves the one client, where the standard streams and the file of the journal can be opened.
 #[tactic(none)]
 fn serve_desk<D: Desk>(
     alloc: Global,
-    budget: u64,
+    wanted: Wanted,
     desk: &mut D,
     clients: Vec<ClientReport<D::In, D::Out>>,
 ) -> Report<D::In, D::Out>
@@ -172,35 +215,47 @@ fn serve_desk<D: Desk>(
     requires room { vec_len clients < vec_capacity clients }
     ensures legal { IsLegal result.journal.items }
     ensures framed { (result.journal.items ≡ []) ⊎ IsFramed (length result.clients.items) result.journal.items }
-    ensures served { All (λ r. (r.number ≡ 1) × (r.status ≡ result.status) × ((given : Option (List ℕ))
+    ensures served { All (λ r. (r.number ≡ 1) × (result.status ≡ first_of r.status result.journal_status) × ((given : Option (List ℕ))
         × IsUnread (D.inputs desk.old) given
-        × IsServed budget r.number r.status result.journal.items given (D.In.left r.source) (D.Out.held r.sink)
+        × IsServed wanted.budget r.number r.status result.journal.items given (D.In.left r.source) (D.Out.held r.sink)
         0 (D.In.faults r.source) 0 (D.Out.faults r.sink))) result.clients.items }
     ensures standard { All (λ r. IsStreamWhereTold (D.Out.stream r.sink) StandardStream) result.clients.items }
     ensures alone { (result.clients.items ≡ []) →
         ((result.status ≡ read_failed) × (result.journal.items ≡ []) × Rose (D.input_faults desk.old) (D.input_faults desk.new))
+        ⊎ ((result.status ≡ write_failed) × (result.journal.items ≡ []) × IsSome wanted.journal × Rose (D.output_faults desk.old) (D.output_faults desk.new))
         ⊎ ((result.status ≡ memory_short) × ((result.journal.items ≡ []) ⊎ (result.journal.items ≡ entry_of 0 act.Close ∷ []))) }
     ensures empty { (result.journal.items ≡ []) → (result.clients.items ≡ []) }
     ensures healthy { (Rose (D.input_faults desk.old) (D.input_faults desk.new) → ⊥)
+        → (Rose (D.output_faults desk.old) (D.output_faults desk.new) → ⊥)
         → All (λ r. (Rose 0 (D.In.faults r.source) → ⊥) × (Rose 0 (D.Out.faults r.sink) → ⊥)) result.clients.items
+        → IfSome result.journal_sink (λ file. Rose 0 (D.Out.faults file) → ⊥)
         → (result.status ≡ all_served) ⊎ (result.status ≡ limit_met) ⊎ (result.status ≡ memory_short) }
     ensures accepted { result.status ≢ words_refused }
     ensures one { length result.clients.items ≤ 1 }
-    ensures no_file { IsNone result.journal_sink × (result.journal_status ≡ 0) }
+    ensures kept { IsKept wanted.journal result.journal.items result.journal_sink }
+    ensures file { IfSome result.journal_sink (λ file. IfSome wanted.journal (λ name. IsStreamWhereTold (D.Out.stream file) (FileNamed name))
+        × IsWritten result.journal_status result.journal.items (D.Out.held file) 0 (D.Out.faults file)) }
+    ensures no_file { IsNone result.journal_sink → result.journal_status ≡ 0 }
 {
     let (source, sink) = match desk.standard() {
         Ok(streams) => streams,
         Err(_failed) => return report_without(READ_FAILED, Vec::new(alloc), clients),
     };
-    serve_standard(alloc, budget, source, sink, clients)
+    let Wanted { budget, journal } = wanted;
+    match journal {
+        None => serve_standard(alloc, budget, source, sink, clients),
+        Some(name) => serve_kept(alloc, budget, name, source, sink, desk, clients),
+    }
 }
 
 /// Serves clients over one engine, and reports what they came to and the one journal. So far there is
-/// one client, over the standard streams, and of the options only `--budget` is served: the steps that
-/// an evaluation may take. Words that name pumps, files, the demo or a replay are refused.
+/// one client, over the standard streams. Of the options `--budget` is served, the steps that an
+/// evaluation may take, and `--journal`, the file to which the journal is written at the end. Words that
+/// name pumps, other files, the demo or a replay are refused.
 ///
 /// Statuses: 0 where the input was read to its end and served, 2 where the words are refused, 3 where a
-/// read or an opening for input failed, 4 where a write failed, 5 for want of memory, 6 at a limit.
+/// read or an opening for input failed, 4 where a write or an opening for output failed, 5 for want of
+/// memory, 6 at a limit. That of the client comes before that of the writing of the journal.
 pub fn run<R: Threads + Wait + Sync, D: Desk, G: Gate>(
     _rt: &R,
     alloc: Global,
@@ -216,53 +271,63 @@ pub fn run<R: Threads + Wait + Sync, D: Desk, G: Gate>(
 
     // Each client's entries follow its commands with the budget of the words, it is written its transcript
     // over the journal, and its status has its cause.
-    ensures served { (budget : ℕ) → budget_of (map string_bytes words.now) ≡ Some budget →
-        All (λ r. (r.number ≡ 1) × (r.status ≡ result.status) × ((given : Option (List ℕ))
+    ensures served { (wanted : Wanted) → wanted_by (map string_bytes words.now) ≡ Some wanted →
+        All (λ r. (r.number ≡ 1) × (result.status ≡ first_of r.status result.journal_status) × ((given : Option (List ℕ))
         × IsUnread (D.inputs desk.old) given
-        × IsServed budget r.number r.status result.journal.items given (D.In.left r.source) (D.Out.held r.sink)
+        × IsServed wanted.budget r.number r.status result.journal.items given (D.In.left r.source) (D.Out.held r.sink)
         0 (D.In.faults r.source) 0 (D.Out.faults r.sink))) result.clients.items }
 
     // Over a desk and streams that don't fail, the input is read to its end, or a limit or want of
     // memory comes.
-    ensures healthy { IsSome (budget_of (map string_bytes words.now)) → (Rose (D.input_faults desk.old) (D.input_faults desk.new) → ⊥)
+    ensures healthy { IsSome (wanted_by (map string_bytes words.now)) → (Rose (D.input_faults desk.old) (D.input_faults desk.new) → ⊥)
+        → (Rose (D.output_faults desk.old) (D.output_faults desk.new) → ⊥)
         → All (λ r. (Rose 0 (D.In.faults r.source) → ⊥) × (Rose 0 (D.Out.faults r.sink) → ⊥)) result.clients.items
+        → IfSome result.journal_sink (λ file. Rose 0 (D.Out.faults file) → ⊥)
         → (result.status ≡ all_served) ⊎ (result.status ≡ limit_met) ⊎ (result.status ≡ memory_short) }
 
     // Each sink is the stream that it is to be.
     ensures standard { All (λ r. IsStreamWhereTold (D.Out.stream r.sink) StandardStream) result.clients.items }
 
-    // Without a client, the streams could not be opened, or memory was wanting before the client was
-    // entered, and the journal has at most the close.
+    // The journal is in the file that the words name, whole where the status of its writing is 0. It is in
+    // none exactly where none is named or there is no journal.
+    ensures kept { (wanted : Wanted) → wanted_by (map string_bytes words.now) ≡ Some wanted →
+        IsKept wanted.journal result.journal.items result.journal_sink }
+    ensures file { (wanted : Wanted) → wanted_by (map string_bytes words.now) ≡ Some wanted →
+        IfSome result.journal_sink (λ file. IfSome wanted.journal (λ name. IsStreamWhereTold (D.Out.stream file) (FileNamed name))
+        × IsWritten result.journal_status result.journal.items (D.Out.held file) 0 (D.Out.faults file)) }
+    ensures no_file { IsNone result.journal_sink → result.journal_status ≡ 0 }
+
+    // Without a client, the streams or the file could not be opened, or memory was wanting before the
+    // client was entered, and the journal has at most the close.
     ensures alone { (result.clients.items ≡ []) →
         (Rose (D.input_faults desk.old) (D.input_faults desk.new) × (result.journal.items ≡ [])
-        × (IsSome (budget_of (map string_bytes words.now)) → result.status ≡ read_failed)
-        × (budget_of (map string_bytes words.now) ≡ None → result.status ≡ words_refused))
+        × (IsSome (wanted_by (map string_bytes words.now)) → result.status ≡ read_failed)
+        × (wanted_by (map string_bytes words.now) ≡ None → result.status ≡ words_refused))
+        ⊎ (((wanted : Wanted) × (wanted_by (map string_bytes words.now) ≡ Some wanted) × IsSome wanted.journal)
+        × (result.status ≡ write_failed) × (result.journal.items ≡ []) × Rose (D.output_faults desk.old) (D.output_faults desk.new))
         ⊎ ((result.status ≡ memory_short) × ((result.journal.items ≡ []) ⊎ (result.journal.items ≡ entry_of 0 act.Close ∷ []))) }
 
     // The journal is empty where the words are refused or an opening failed, and else only for want of
     // memory before the engine was open.
-    ensures empty { (result.journal.items ≡ []) → (budget_of (map string_bytes words.now) ≡ None) ⊎ ((result.clients.items ≡ [])
-        × ((result.status ≡ read_failed) ⊎ (result.status ≡ memory_short))) }
-    ensures unopened { (result.clients.items ≡ []) → (result.status ≡ read_failed) → result.journal.items ≡ [] }
+    ensures empty { (result.journal.items ≡ []) → (wanted_by (map string_bytes words.now) ≡ None) ⊎ ((result.clients.items ≡ [])
+        × ((result.status ≡ read_failed) ⊎ (result.status ≡ write_failed) ⊎ (result.status ≡ memory_short))) }
+    ensures unopened { (result.clients.items ≡ []) → (result.status ≡ read_failed) ⊎ (result.status ≡ write_failed) → result.journal.items ≡ [] }
 
     // Refused words: the usage line is written, and nothing is read or journalled.
-    ensures refused { budget_of (map string_bytes words.now) ≡ None → result.journal.items ≡ [] }
-    ensures refused_status { budget_of (map string_bytes words.now) ≡ None → (result.status ≡ words_refused) ⊎ (result.status ≡ memory_short) }
-    ensures accepted_status { IsSome (budget_of (map string_bytes words.now)) → result.status ≢ words_refused }
-    ensures unread { budget_of (map string_bytes words.now) ≡ None → All (λ r. IsUnread (D.inputs desk.old) (D.In.left r.source)
+    ensures refused { wanted_by (map string_bytes words.now) ≡ None → (result.journal.items ≡ []) × IsNone result.journal_sink }
+    ensures refused_status { wanted_by (map string_bytes words.now) ≡ None → (result.status ≡ words_refused) ⊎ (result.status ≡ memory_short) }
+    ensures accepted_status { IsSome (wanted_by (map string_bytes words.now)) → result.status ≢ words_refused }
+    ensures unread { wanted_by (map string_bytes words.now) ≡ None → All (λ r. IsUnread (D.inputs desk.old) (D.In.left r.source)
         × (D.In.faults r.source ≡ 0)) result.clients.items }
-    ensures usage { budget_of (map string_bytes words.now) ≡ None → All (λ r. (r.number ≡ 0) × (r.status ≡ words_refused) × (result.status ≡ words_refused)
+    ensures usage { wanted_by (map string_bytes words.now) ≡ None → All (λ r. (r.number ≡ 0) × (r.status ≡ words_refused) × (result.status ≡ words_refused)
         × IsUsage (D.Out.held r.sink) USAGE.now (Rose 0 (D.Out.faults r.sink))) result.clients.items }
-
-    // No file is opened for the journal so far.
-    ensures no_file { IsNone result.journal_sink × (result.journal_status ≡ 0) }
 {
     let clients = match Vec::with_capacity(alloc, 1) {
         Ok(clients) => clients,
         Err(_refused) => return report_without(MEMORY_SHORT, Vec::new(alloc), Vec::new(alloc)),
     };
-    match budget_of(alloc, words) {
-        Ok(Some(budget)) => serve_desk(alloc, budget, desk, clients),
+    match wanted_by(alloc, words) {
+        Ok(Some(wanted)) => serve_desk(alloc, wanted, desk, clients),
         Ok(None) => refuse_words(alloc, desk, clients),
         Err(NoMemory) => report_without(MEMORY_SHORT, Vec::new(alloc), clients),
     }
